@@ -1,0 +1,5 @@
+pub mod Bytes
+pub mod Rules
+pub mod Tally
+pub mod Kept
+pub mod Laws
