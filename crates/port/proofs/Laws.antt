@@ -322,21 +322,24 @@ after-take [] bs h = refl
 after-take (c ∷ cs) [] h = refl
 after-take (c ∷ cs) (b ∷ bs) h = after-take cs bs (record { call = c; answer = b } ∷ h)
 
+-- a served history with one call more
+pub served-more : (n : Numbers) (image : List ℕ) (h : List Event) (σ : State) (c : Command) (b : Answer) (τ : State) → Legal n σ → book (n .width) image h ≡ σ → Served n image h → Moves n σ c b τ →
+    Served n image (record { call = c; answer = b } ∷ h) × (book (n .width) image (record { call = c; answer = b } ∷ h) ≡ τ)
+unfolding Served book
+served-more n image h σ c b τ legal is served moves =
+    ( (lawful n image h σ c b τ legal is served moves, served)
+    , ap (λ (ρ : State). fed (n .width) ρ c b) is ∙ fed-moves n σ c b τ moves )
+
 pub ran-none : (n : Numbers) (σ : State) (bs : List Answer) → Ran n σ [] bs σ
 ran-none n σ bs image h is served = (served, is)
 
 pub ran-push : (n : Numbers) (σ : State) (cs : List Command) (bs : List Answer) (τ : State) (c : Command) (b : Answer) (υ : State) →
     length cs ≡ length bs → Legal n τ → Ran n σ cs bs τ → Moves n τ c b υ → Ran n σ (cs ++ (c ∷ [])) (bs ++ (b ∷ [])) υ
-unfolding Served book
 ran-push n σ cs bs τ c b υ same legal ran moves image h is served =
     let so-far = ran image h is served in
-    let k = after-calls cs bs h in
     let more = after-push cs bs c b h same in
-    let law = lawful n image k τ c b υ legal (so-far .1) (so-far .0) moves in
-    let e : Event = record { call = c; answer = b } in (
-      subst (Served n image) (sym more) (law, so-far .0),
-      ap (λ (g : List Event). book (n .width) image g) more ∙ ap (λ (ρ : State). fed (n .width) ρ c b) (so-far .1) ∙ fed-moves n τ c b υ moves,
-    )
+    let one = served-more n image (after-calls cs bs h) τ c b υ legal (so-far .1) (so-far .0) moves in
+    (subst (Served n image) (sym more) (one .0), ap (λ (g : List Event). book (n .width) image g) more ∙ one .1)
 
 -- one turn of a run over a list
 pub ran-step : (n : Numbers) (σ : State) (cs : List Command) (bs : List Answer) (i : ℕ) (τ : State) (b : Answer) (υ : State) → i < length cs → i < length bs → Legal n τ →

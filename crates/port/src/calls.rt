@@ -1,13 +1,13 @@
 //! What is put to a port and what it answers.
 use crate::addresses::WordOffset;
-use crate::addresses::WordOffsetDebug;
-use crate::addresses::WordOffsetPartialEq;
+
+mod refusals;
 
 /// A word as it travels: lane i is bits 8i to 8i + 7.
 pub type Word = u64;
 
 /// What a host puts to a port in one clock call.
-#[derive(Clone, Copy, PartialEq, Eq, Debug)]
+#[derive(Clone, Copy)]
 pub enum Command {
     Idle,
     Read {
@@ -61,7 +61,7 @@ pub enum Answer {
 }
 
 /// An open write burst: where its next beat goes, and how many beats are left.
-#[derive(Clone, Copy, PartialEq, Eq, Debug)]
+#[derive(Clone, Copy)]
 pub struct OpenBurst {
     pub next: u32,
     pub left: u16,

@@ -1,7 +1,7 @@
 //! The six fixed numbers of a port.
 
 /// What never changes of a port.
-#[derive(Clone, Copy, PartialEq, Eq, Debug)]
+#[derive(Clone, Copy)]
 pub struct Numbers {
     /// Bytes per word.
     pub width: u8,

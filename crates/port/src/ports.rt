@@ -91,7 +91,8 @@ pub trait Port {
         requires { ⌜ sound (now self) ⌝ }
         ensures { λ r. ⌜ r ≡ state (now (self .entry)) .burst ⌝ }
     {
-        self.status().burst
+        let PortRecord { burst, .. } = self.status();
+        burst
     }
 
     /// The command that is held.

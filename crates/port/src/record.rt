@@ -1,19 +1,13 @@
 //! The plain record that every make of port holds: its numbers, and what is open, held and owed, as counts.
 use crate::calls::Command;
-use crate::calls::CommandDebug;
-use crate::calls::CommandPartialEq;
 use crate::calls::OpenBurst;
-use crate::calls::OpenBurstDebug;
-use crate::calls::OpenBurstPartialEq;
 use crate::numbers::Numbers;
-use crate::numbers::NumbersDebug;
-use crate::numbers::NumbersPartialEq;
 
 mod moves;
 mod refusals;
 
 /// What a port keeps besides its memory and the words owed.
-#[derive(Clone, Copy, PartialEq, Eq, Debug)]
+#[derive(Clone, Copy)]
 pub struct PortRecord {
     pub numbers: Numbers,
     pub burst: Option<OpenBurst>,
@@ -25,7 +19,7 @@ pub struct PortRecord {
 }
 
 /// What came back in a clock call: no word, a word with more of its burst to come, or the last word of a burst.
-#[derive(Clone, Copy, PartialEq, Eq, Debug)]
+#[derive(Clone, Copy)]
 pub enum Returned {
     Nothing,
     Word,

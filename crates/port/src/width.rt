@@ -20,7 +20,7 @@ pub trait Width {
 
     /// The word that begins at an address; none where the address is no multiple of the width.
     fn divide(at: ByteAddress) -> Option<WordOffset>
-        ensures { λ r. ⌜ elim r [ Some o ↦ o .0 * wide ≡ at .0 | None ↦ ((k : ℕ) → k * wide ≡ at .0 → ⊥) ] ⌝ }
+        ensures { λ r. ⌜ elim r [ Some o ↦ (at .0 % wide ≡ 0) × (o .0 ≡ at .0 / wide) | None ↦ (at .0 % wide ≡ 0 → ⊥) ] ⌝ }
     {
         let w = Self::width() as u32;
         if at.0 % w == 0 {

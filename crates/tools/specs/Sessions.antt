@@ -1,0 +1,53 @@
+-- What it means that a session was read from a file.
+use Prim.Native.Nat.{ℕ, _+_}
+use mathlib.Core.Path.{_≡_}
+use mathlib.Core.List.{List}
+use denote.Ref.{RefT, now}
+use lib.ListN.{length}
+use Rattle.std.specs.declared.option.Option.the-variants.{Some, None}
+use Rattle.tools.specs.declared.faults.Fault.{Fault}
+use Rattle.tools.specs.declared.records.Stretch.{Stretch}
+use Rattle.tools.specs.declared.session.Session.{Session}
+use Rattle.tools.specs.Faults.{first-fault}
+use Rattle.tools.specs.Forms.{Contents, Well-formed}
+use Rattle.tools.specs.Parts.{Part}
+
+-- the numbers and the bytes of a session
+abbrev pub contents-of : Session → Contents
+contents-of s = record {
+  pile-number = s .pile .pile;
+  burst = s .pile .«burst_limit»;
+  pending = s .pile .«pending_limit»;
+  adapter-bytes = now (s .adapters .bytes);
+  wait-bytes = now (s .waits .bytes);
+  gap-bytes = now (s .gaps .bytes);
+  memory-bytes = now (s .memory .bytes);
+  command-bytes = now (s .commands .bytes);
+}
+
+-- all of a stretch is the part of the file at a place
+abbrev pub Lies : RefT (List ℕ) → ℕ → Stretch → Type 0
+Lies whole from t = Part whole from (length (now (t .bytes))) t
+
+-- the place behind a stretch and the count that follows it
+abbrev pub past-count : Stretch → ℕ
+past-count t = t .place + length (now (t .bytes)) + 2
+
+-- the session's stretches are parts of the file itself, one behind the other, from the adapters on
+pub record In-place (whole : RefT (List ℕ)) (s : Session) : Type 0 where
+  pub adapters-lie : Lies whole 7 (s .adapters)
+  pub waits-lie : Lies whole (past-count (s .adapters)) (s .waits)
+  pub gaps-lie : Lies whole (past-count (s .waits)) (s .gaps)
+  pub memory-lies : Lies whole (past-count (s .gaps)) (s .memory)
+  pub commands-lie : Lies whole (past-count (s .memory)) (s .commands)
+
+-- a session that was read: the file is well formed, and holds just what the session has
+pub record Accepted (whole : RefT (List ℕ)) (s : Session) : Type 0 where
+  pub faultless : first-fault (now whole) ≡ None
+  pub formed : Well-formed (now whole) (contents-of s)
+  pub in-place : In-place whole s
+
+-- a file that was refused: the fault is its first, and the file is not well formed, whatever it should hold
+pub record Rejected (whole : RefT (List ℕ)) (f : Fault) : Type 0 where
+  pub first : first-fault (now whole) ≡ Some f
+  pub malformed : (s : Contents) → Well-formed (now whole) s → ⊥

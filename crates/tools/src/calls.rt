@@ -1,0 +1,76 @@
+//! The commands of a session as they are put to a port: what the host's side refuses, and what goes on to the port.
+ghost use Prim.Native.Nat.{ℕ};
+ghost use mathlib.Core.Path.{_≡_};
+ghost use Rattle.port.specs.Refusals.{number-of};
+ghost use Rattle.std.specs.declared.option.Option.the-variants.{None, Some};
+ghost use Rattle.std.specs.declared.result.Result.the-variants.{Err, Ok};
+ghost use Rattle.tools.specs.Calls.{Converted, Placed, Played, all-lanes, host-rule};
+use crate::records::CommandFields;
+use port::addresses::ByteAddress;
+use port::addresses::WordOffset;
+use port::calls::Answer;
+use port::calls::Command;
+use port::calls::OpenBurst;
+use port::calls::Refusal;
+use port::ports::Port;
+use port::width::Width;
+
+/// The offset of an address. In an open burst a beat's address is not looked at, and one that is no multiple of the
+/// width stands for offset 0.
+fn offset_of<W: Width>(burst: Option<OpenBurst>, address: u32) -> Result<WordOffset, Refusal>
+    ensures { λ r. ⌜ Placed (W·Width .wide) burst address r ⌝ }
+{
+    match (W::divide(ByteAddress(address)), burst) {
+        (Some(offset), _) => Ok(offset),
+        (None, Some(_)) => Ok(WordOffset(0)),
+        (None, None) => Err(Refusal::Misaligned),
+    }
+}
+
+impl CommandFields {
+    /// The command that the record carries, for a port with this write burst open.
+    fn command<W: Width>(self, burst: Option<OpenBurst>) -> Result<Command, Refusal>
+        ensures { λ r. ⌜ Converted (W·Width .wide) burst self r ⌝ }
+    {
+        match self.flags {
+            0 => Ok(Command::Idle),
+            1 => {
+                let offset = offset_of::<W>(burst, self.address)?;
+                Ok(Command::Read { offset, count: self.count })
+            }
+            2 => {
+                let offset = offset_of::<W>(burst, self.address)?;
+                Ok(Command::Write { offset, count: self.count, mask: self.mask, word: self.bits })
+            }
+            _ => Err(Refusal::ReadAndWrite),
+        }
+    }
+
+    /// Whether the record is no read, or a read of all lanes.
+    fn reads_all_lanes<W: Width>(self) -> bool
+        ensures { λ r. ⌜ r ≡ all-lanes (W·Width .wide) self ⌝ }
+    {
+        self.flags != 1 || self.mask as u16 == (1 << W::width()) - 1
+    }
+}
+
+/// Puts a command of a session to a port. A read that does not name all lanes is not put to it.
+pub(crate) fn play_one<W: Width, P: Port>(port: &mut P, fields: CommandFields) -> Answer
+    requires { ⌜ P·Port .sound (now port) ⌝ ∗ ⌜ P·Port .wide ≡ W·Width .wide ⌝ }
+    ensures sound { λ _. ⌜ P·Port .sound (now (port .exit)) ⌝ }
+    ensures fixed { λ _. ⌜ P·Port .fixed (now (port .exit)) ≡ P·Port .fixed (now (port .entry)) ⌝ }
+    ensures plays { λ a. ⌜ Played (P·Port .fixed (now (port .entry))) (P·Port .state (now (port .entry))) fields a (P·Port .state (now (port .exit))) ⌝ }
+{
+    let status = port.status();
+    let command = match fields.command::<W>(status.burst) {
+        Ok(command) => command,
+        Err(refusal) => return Answer::Refused(refusal),
+    };
+    if fields.reads_all_lanes::<W>() {
+        return port.clock(command);
+    }
+    match status.refusal(command) {
+        Some(refusal) => Answer::Refused(refusal),
+        None => Answer::Refused(Refusal::Lanes),
+    }
+}

@@ -1,0 +1,11 @@
+//! Reads session files: six sections of records in a fixed order, each behind its count.
+//! The reader copies nothing; whatever it hands out borrows the caller's bytes.
+pub mod calls;
+pub mod faults;
+pub mod lines;
+pub mod piles;
+pub mod player;
+pub mod reader;
+pub mod records;
+pub mod section;
+pub mod session;
