@@ -3,5 +3,3 @@ mod lanes;
 pub mod memory;
 pub mod queue;
 pub mod script;
-#[cfg(test)]
-mod tests;

@@ -11,8 +11,7 @@ use tools::lines::HeadLineDisplay;
 use tools::piles::Played;
 use tools::piles::Stop;
 use tools::piles::Summary;
-use tools::piles::play_session;
-use tools::session::read_session;
+use tools::piles::play_file;
 
 /// More than the longest session file: what comes after is not read, since the file is refused without it.
 const LIMIT: usize = 65536;
@@ -20,23 +19,17 @@ const LIMIT: usize = 65536;
 /// Why the player ends with status 1.
 #[derive(Debug, Drop)]
 enum Failure {
-    /// The session was refused, and its line is printed.
+    /// The input is no session, and its line is printed.
     Fault,
-    /// The pile could not be played.
-    Pile,
-    /// Standard input or output failed, or there was no memory.
-    System(io::Error),
+    /// There is no memory for the session.
+    NoMemory,
+    /// Standard input or output failed.
+    Stream(io::Error),
 }
 
 impl From<io::Error> for Failure as FailureFromIo {
     fn from(error: io::Error) -> Failure {
-        Failure::System(error)
-    }
-}
-
-impl From<Stop> for Failure as FailureFromStop {
-    fn from(_: Stop) -> Failure {
-        Failure::Pile
+        Failure::Stream(error)
     }
 }
 
@@ -61,9 +54,9 @@ fn read_input(rt: &LibcRuntime) -> io::Result<Vec<u8>> {
 }
 
 /// Prints a session that was played.
-fn print_played(rt: &LibcRuntime, pile: u8, played: &Played) -> io::Result<()> {
+fn print_played(rt: &LibcRuntime, played: &Played) -> io::Result<()> {
     let Summary { top, taken, owed } = played.summary;
-    let head = HeadLine { pile, top };
+    let head = HeadLine { pile: played.pile, top };
     println!(rt, "{head}")?;
     for (index, answer) in played.answers.iter().enumerate() {
         let line = CallLine { index, answer: *answer, width: top.width };
@@ -75,15 +68,12 @@ fn print_played(rt: &LibcRuntime, pile: u8, played: &Played) -> io::Result<()> {
 
 fn main(rt: LibcRuntime) -> Result<(), Failure> {
     let input = read_input(&rt)?;
-    match read_session(&input) {
-        Ok(session) => {
-            let played = play_session(rt.alloc(), &session)?;
-            print_played(&rt, session.pile.pile, &played)?;
-            Ok(())
-        }
-        Err(fault) => {
+    match play_file(rt.alloc(), &input) {
+        Ok(played) => Ok(print_played(&rt, &played)?),
+        Err(Stop::Fault(fault)) => {
             println!(rt, "{fault}")?;
             Err(Failure::Fault)
         }
+        Err(Stop::NoMemory) => Err(Failure::NoMemory),
     }
 }

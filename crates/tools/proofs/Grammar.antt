@@ -30,7 +30,7 @@ found-none : (k : Section) (b at : ℕ) (o : Option FileFault) → found-at k b 
 found-none k b at (Some f) e = search needs
 found-none k b at None e = refl
 
-record-sound : (k : Section) (xs : List ℕ) (from b : ℕ) → record-fault k xs from b ≡ None
+pub record-sound : (k : Section) (xs : List ℕ) (from b : ℕ) → record-fault k xs from b ≡ None
     → (from + bytes-each k ≤ length xs) × (wrongIn k (bytes-at xs from (bytes-each k)) ≡ None)
 record-sound k xs from b e = search (needs, found-none)
 
@@ -89,7 +89,7 @@ records-complete k xs from b (suc n) body others d r =
     let rest = records-complete k xs (from + s) (b + 1) n (r .1) others (p .2) (r .5) in
     ap (λ (o : Option Fault). or-else o (records-fault k xs (from + s) (b + 1) n)) one ∙ rest
 
-count-sound : (k : Section) (xs : List ℕ) (from : ℕ) → count-fault k xs from ≡ None
+pub count-sound : (k : Section) (xs : List ℕ) (from : ℕ) → count-fault k xs from ≡ None
     → (from + 2 ≤ length xs) × (allowed k (count-at xs from) ≡ true)
 count-sound k xs from e = search needs
 

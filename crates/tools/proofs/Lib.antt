@@ -1,6 +1,7 @@
-mod Walks
+mod Finals
 mod Grammar
+mod Plays
+mod Ranges
+mod Sequences
 mod Trails
-pub mod Plays
-pub mod Sequences
-pub mod Finals
+mod Walks

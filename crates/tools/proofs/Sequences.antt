@@ -96,11 +96,11 @@ all-ran n σ xs bs i τ ran image h is served =
     (subst (Served n image) same (got .0), ap (λ (k : List Event). book (n .width) image k) (sym same) ∙ got .1, rightly-take n image fs bs h (got .2))
 
 -- the record that sixteen bytes carry
-pub fields-are : (xs : List ℕ) (from n : ℕ) (f : CommandFields) → n ≡ 16 → Some f ≡ commandIn (take n (drop from xs)) → f ≡ command-record (bytes-at xs from 16)
-fields-are xs from n f e found =
-    let ys = take n (drop from xs) in
-    let here : (t : Bool) → Some f ≡ cond t (Some (command-record ys)) None → f ≡ command-record ys = λ t. elim t as (λ s. Some f ≡ cond s (Some (command-record ys)) None → f ≡ command-record ys) [ true ↦ λ q. cc | false ↦ λ q. cc ] in
-    here (eqb (length ys) 16) found ∙ ap (λ k. command-record (take k (drop from xs))) e
+pub fields-are : (ys zs : List ℕ) (f : CommandFields) → ys ≡ zs → Some f ≡ commandIn ys → f ≡ command-record zs
+fields-are ys zs f e found =
+    let here : (t : Bool) → Some f ≡ cond t (Some (command-record ys)) None → f ≡ command-record ys =
+          λ t. elim t as (λ s. Some f ≡ cond s (Some (command-record ys)) None → f ≡ command-record ys) [ true ↦ λ q. cc | false ↦ λ q. cc ] in
+    here (eqb (length ys) 16) found ∙ ap command-record e
 
 -- Taken commands --------------------------------------------------------------------
 

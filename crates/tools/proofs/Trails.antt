@@ -23,8 +23,9 @@ use Rattle.tools.specs.Faults.{count-at, section-fault, sections-fault, rest-f
 use Rattle.tools.specs.Forms.{Contents, Section-of, Sections-of, Well-formed}
 use Rattle.tools.specs.Parts.{Part, Passed}
 use Rattle.tools.specs.Fields.{pileIn}
-use Rattle.tools.specs.Sections.{bytes-each}
+use Rattle.tools.specs.Sections.{adapters-in, bytes-each}
 use Rattle.tools.specs.Sessions.{Accepted, Lies, Rejected, past-count}
+use Rattle.tools.proofs.Ranges.{adapters-range, command-flags, commands-range, count-allowed, fields-range, memory-range, pile-good, script-range}
 use Rattle.tools.proofs.Grammar.{section-sound, sections-complete}
 
 -- a reader has come to a section, and whatever fault the file has is from there on
@@ -212,6 +213,12 @@ accepted {whole = whole} {p0 = p0} {p1 = p1} {p2 = p2} {p3 = p3} {p4 = p4} {p5 =
     let s3 = section-first (Gaps ∷ Memory ∷ Commands ∷ []) b3 (b4 ∷ b5 ∷ b6 ∷ []) a3 refl s4 in
     let s2 = section-first (Waits ∷ Gaps ∷ Memory ∷ Commands ∷ []) b2 (b3 ∷ b4 ∷ b5 ∷ b6 ∷ []) a2 refl s3 in
     let s1 = section-first (after-pile (q .pile)) b1 (b2 ∷ b3 ∷ b4 ∷ b5 ∷ b6 ∷ []) a1 (fields-all (now (r1 .stretch .bytes)) q (sym t)) s2 in
+    let g1 = fields-range (now (r1 .stretch .bytes)) q (pile-good a1 (f .0)) t in
+    let g2 = adapters-range (adapters-in (q .pile)) (r2 .count) (length b2) (count-allowed a2) (a2 .records-part .long) in
+    let g3 = script-range (r3 .count) (length b3) (count-allowed a3) (a3 .records-part .long) in
+    let g4 = script-range (r4 .count) (length b4) (count-allowed a4) (a4 .records-part .long) in
+    let g5 = memory-range (r5 .count) (length b5) (count-allowed a5) (a5 .records-part .long) in
+    let g6 = commands-range (r6 .count) (length b6) (count-allowed a6) (a6 .records-part .long) in
     record {
       faultless = n;
       formed = subst (λ (m : ℕ). Sections-of (Pile ∷ after-pile (q .pile)) (b1 ∷ b2 ∷ b3 ∷ b4 ∷ b5 ∷ b6 ∷ []) (drop m (now whole))) z s1;
@@ -221,5 +228,22 @@ accepted {whole = whole} {p0 = p0} {p1 = p1} {p2 = p2} {p3 = p3} {p4 = p4} {p5 =
         gaps-lie = lies-at (past-count (r3 .stretch)) a4 (omega arith);
         memory-lies = lies-at (past-count (r4 .stretch)) a5 (omega arith);
         commands-lie = lies-at (past-count (r5 .stretch)) a6 (omega arith);
+      };
+      in-range = record {
+        burst-low = g1 .0;
+        burst-high = g1 .1;
+        pending-low = g1 .2;
+        pending-high = g1 .3;
+        pile-known = g2;
+        waits-low = g3 .0;
+        waits-high = g3 .1;
+        gaps-low = g4 .0;
+        gaps-high = g4 .1;
+        memory-low = g5 .0;
+        memory-high = g5 .1;
+        memory-whole = g5 .2;
+        commands-high = g6 .0;
+        commands-whole = g6 .1;
+        flags-named = command-flags a6;
       };
     }

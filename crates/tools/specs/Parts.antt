@@ -25,14 +25,10 @@ pub record Part (whole : RefT (List ℕ)) (from n : ℕ) (s : Stretch) : Type 0 
 pub record Piece (of : Stretch) (from n : ℕ) (s : Stretch) : Type 0 where
   pub holds : now (s .bytes) ≡ bytes-at (now (of .bytes)) from n
   pub long : length (now (s .bytes)) ≡ n
-  pub placed : s .place ≡ of .place + from
+  pub placed : of .place + from < 2 ^ 64 → s .place ≡ of .place + from
   pub inside : from + n ≤ length (now (of .bytes))
   pub block : s .bytes .ptr .0 ≡ of .bytes .ptr .0
   pub offset : s .bytes .ptr .1 ≡ of .bytes .ptr .1 + from
-
--- a stretch, all of whose places are numbers of 64 bits, does not have n bytes from a place on
-abbrev pub Lacks : Stretch → ℕ → ℕ → Type 0
-Lacks of from n = of .place + length (now (of .bytes)) < 2 ^ 64 → length (now (of .bytes)) < from + n
 
 -- a section without a fault was read from a place on: its count, the part that its records are, and the place behind it
 pub record Passed (k : Section) (whole : RefT (List ℕ)) (from : ℕ) (r : Records) (to : ℕ) : Type 0 where

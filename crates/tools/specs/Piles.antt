@@ -2,23 +2,23 @@
 use Prim.Native.Nat.{ℕ, _*_, _/_, _<_}
 use mathlib.Core.Path.{_≡_}
 use mathlib.Core.List.{List, []}
-use mathlib.Core.Logic.{_⊎_}
-use denote.Ref.{now}
+use denote.Ref.{RefT, now}
 use lib.ListN.{length, take}
 use Rattle.agents.specs.Building.{Buildable, numbers-of}
 use Rattle.port.specs.Book.{Event, book}
-use Rattle.port.specs.Refusals.{number-of}
 use Rattle.port.specs.Runs.{Served}
 use Rattle.port.specs.declared.calls.Answer.{Answer}
 use Rattle.port.specs.declared.numbers.Numbers.{Numbers}
 use Rattle.std.specs.Of.Vec.{vec-items}
 use Rattle.std.specs.declared.result.Result.{Result}
 use Rattle.std.specs.declared.result.Result.the-variants.{Ok, Err}
+use Rattle.tools.specs.Forms.{Contents, Well-formed}
+use Rattle.tools.specs.Sessions.{Rejected}
 use Rattle.tools.specs.Plays.{All-rightly, after-commands, commands-in, takes-in}
 use Rattle.tools.specs.declared.piles.Places.{Places}
 use Rattle.tools.specs.declared.piles.Played.{Played}
 use Rattle.tools.specs.declared.piles.Stop.{Stop}
-use Rattle.tools.specs.declared.piles.Stop.the-variants.{Refused, NoMemory}
+use Rattle.tools.specs.declared.piles.Stop.the-variants as stop
 use Rattle.tools.specs.declared.piles.Summary.{Summary}
 use Rattle.tools.specs.declared.records.PileFields.{PileFields}
 use Rattle.tools.specs.declared.session.Session.{Session}
@@ -50,18 +50,25 @@ abbrev pub Fitting : PileFields → ℕ → ℕ → ℕ → ℕ → ℕ → Type
 Fitting p size wait-values gap-values word-places burst-places =
     (p .pile ≡ 2) × Buildable size wait-values gap-values word-places burst-places (p .«burst_limit») (p .«pending_limit»)
 
--- what playing a session gives: refused with 2 only where its pile cannot be built of what it holds; whether there is
+-- a session that was played: its memory is the image, and there is an answer for each command
+pub record Session-played (s : Session) (p : Played) : Type 0 where
+  pub pile : p .pile ≡ s .pile .pile
+  pub plays : Plays (numbers-over (s .pile) (length (now (s .memory .bytes))) (now (s .waits .bytes)) (now (s .gaps .bytes))) (now (s .memory .bytes)) (now (s .commands .bytes)) (vec-items (p .answers)) (p .summary)
+  pub all : length (vec-items (p .answers)) ≡ count-of (now (s .commands .bytes))
+
+-- the numbers of the top port of a session
+abbrev pub top-numbers : Contents → Numbers
+top-numbers c = numbers-of 4 (length (c .memory-bytes)) (c .wait-bytes) (c .gap-bytes) (c .burst) (c .pending)
+
+-- what playing a file gives: the file is well formed, and what it holds was played; or its first fault. Whether there is
 -- memory is left free
-abbrev pub Session-played : Session → Result Played Stop → Type 0
-Session-played s (Ok p) =
-    Plays (numbers-over (s .pile) (length (now (s .memory .bytes))) (now (s .waits .bytes)) (now (s .gaps .bytes))) (now (s .memory .bytes)) (now (s .commands .bytes))
-      (vec-items (p .answers)) (p .summary)
-      × (length (vec-items (p .answers)) ≡ count-of (now (s .commands .bytes)))
-Session-played s (Err (Refused e)) =
-    (number-of e ≡ 2)
-      × (Fitting (s .pile) (length (now (s .memory .bytes))) (length (now (s .waits .bytes))) (length (now (s .gaps .bytes)))
-          (s .pile .«burst_limit» * s .pile .«pending_limit») (s .pile .«pending_limit») → ⊥)
-Session-played s (Err NoMemory) = Unit {0}
+abbrev pub File-played : RefT (List ℕ) → Result Played Stop → Type 0
+File-played whole (Ok p) =
+    (c : Contents) × Well-formed (now whole) c × (p .pile ≡ c .pile-number)
+      × Plays (top-numbers c) (c .memory-bytes) (c .command-bytes) (vec-items (p .answers)) (p .summary)
+      × (length (vec-items (p .answers)) ≡ count-of (c .command-bytes))
+File-played whole (Err (stop.Fault f)) = Rejected whole f
+File-played whole (Err stop.NoMemory) = Unit {0}
 
 -- places for a session: the bytes of its memory, and room for B × P words, P read bursts and an answer for each command
 pub record Places-for (s : Session) (p : Places) : Type 0 where

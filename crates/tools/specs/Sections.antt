@@ -1,7 +1,7 @@
 -- The six sections of a session file: their numbers, the sizes of their records, the counts and the records that they allow.
 use Prim.Native.Nat.{ℕ, _%_}
 use mathlib.Core.List.{List}
-use mathlib.Core.Bool.{Bool, true, false, cond}
+use mathlib.Core.Bool.{Bool, true, false, cond, _&&_}
 use denote.Ref.{now}
 use lib.Dec.{eqb, leb}
 use lib.ListN.{getD, length}
@@ -19,12 +19,9 @@ use Rattle.tools.specs.declared.section.Section.{Section}
 use Rattle.tools.specs.declared.section.Section.the-variants.{Pile, Adapters, Waits, Gaps, Memory, Commands}
 use Rattle.tools.specs.Fields.{pileIn, commandIn}
 
-abbrev pub both : Bool → Bool → Bool
-both a b = cond a b false
-
 -- n is from low to high
-abbrev pub between : ℕ → ℕ → ℕ → Bool
-between low high n = both (leb low n) (leb n high)
+abbrev pub from-to : ℕ → ℕ → ℕ → Bool
+from-to low high n = leb low n && leb n high
 
 -- how many adapters a pile has; a number that stands for no pile has no answer
 abbrev pub adapters-in : ℕ → Option ℕ
@@ -55,13 +52,13 @@ same-number None n = false
 abbrev pub allowed : Section → ℕ → Bool
 allowed Pile n = eqb n 1
 allowed (Adapters p) n = same-number (adapters-in p) n
-allowed Waits n = between 1 256 n
-allowed Gaps n = between 1 256 n
-allowed Memory n = both (between 8 32768 n) (eqb (n % 8) 0)
+allowed Waits n = from-to 1 256 n
+allowed Gaps n = from-to 1 256 n
+allowed Memory n = from-to 8 32768 n && eqb (n % 8) 0
 allowed Commands n = leb n 1024
 
 abbrev pub ranged : PileFields → Bool
-ranged p = both (isSome (adapters-in (p .pile))) (both (between 1 64 (p .«burst_limit»)) (between 1 16 (p .«pending_limit»)))
+ranged p = isSome (adapters-in (p .pile)) && (from-to 1 64 (p .«burst_limit») && from-to 1 16 (p .«pending_limit»))
 
 abbrev pub unless-pile : Option PileFields → Option FileFault
 unless-pile (Some p) = cond (ranged p) None (Some OutOfRange)

@@ -1,4 +1,4 @@
-//! Reads session files: six sections of records in a fixed order, each behind its count.
+//! Session files and the player: reads a session, builds its pile, and plays its commands on it.
 //! The reader copies nothing; whatever it hands out borrows the caller's bytes.
 pub mod calls;
 pub mod faults;

@@ -1,16 +1,15 @@
 //! The piles of a session: what the player builds, and the commands played on it.
 ghost use mathlib.Core.Path.{_≡_};
 ghost use Rattle.tools.specs.declared.piles.Stop.the-variants.{NoMemory};
+use crate::faults::Fault;
 use agents::memory::ReadBurst;
 use port::calls::Answer;
-use port::calls::Refusal;
-use port::calls::RefusalDebug;
 use port::numbers::Numbers;
 use std::alloc::AllocError;
 
 mod build;
 
-pub use build::play_session;
+pub use build::play_file;
 
 /// What is known at the end of a session.
 #[derive(Clone, Copy)]
@@ -23,9 +22,10 @@ pub struct Summary {
     pub owed: u32,
 }
 
-/// A session that was played: an answer for each command, and the summary.
+/// A session that was played: its pile, an answer for each command, and the summary.
 #[derive(Drop)]
 pub struct Played {
+    pub pile: u8,
     pub answers: Vec<Answer>,
     pub summary: Summary,
 }
@@ -39,11 +39,11 @@ struct Places {
     answers: Vec<Answer>,
 }
 
-/// Why a session is not played.
-#[derive(Clone, Copy, Debug)]
+/// Why a file is not played.
+#[derive(Clone, Copy)]
 pub enum Stop {
-    /// Its pile is refused.
-    Refused(Refusal),
+    /// It is no session.
+    Fault(Fault),
     /// There is no memory for it.
     NoMemory,
 }

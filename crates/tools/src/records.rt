@@ -3,7 +3,7 @@
 ghost use Prim.Native.Nat.{ℕ, _+_, _*_, _≤_, _<_};
 ghost use Rattle.std.specs.declared.option.Option.the-variants.{None, Some};
 ghost use Rattle.tools.specs.Bytes.{number-at};
-ghost use Rattle.tools.specs.Parts.{Lacks, Piece};
+ghost use Rattle.tools.specs.Parts.{Piece};
 ghost use Rattle.tools.specs.Fields.{commandIn, pileIn};
 ghost use lib.ListN.{getD, length};
 ghost use mathlib.Core.Path.{_≡_};
@@ -17,17 +17,16 @@ pub struct Stretch<'a> {
 
 impl<'a> Stretch<'a> {
     /// The `size` bytes from `start` on, if the stretch has them.
-    pub fn part(self, start: usize, size: usize) -> Option<Stretch<'a>>
-        ensures { λ r. ⌜ elim r [ Some s ↦ Piece (self .entry) start size s | None ↦ Lacks (self .entry) start size ] ⌝ }
+    pub(crate) fn part(self, start: usize, size: usize) -> Option<Stretch<'a>>
+        ensures { λ r. ⌜ elim r [ Some s ↦ Piece (self .entry) start size s | None ↦ length (now (self .entry .bytes)) < start + size ] ⌝ }
     {
         if self.bytes.len() < start || self.bytes.len() - start < size {
             return None;
         }
-        let place = self.place.checked_add(start)?;
         let bytes = self.bytes;
         Some(Stretch {
             bytes: &bytes[start..start + size],
-            place,
+            place: self.place.saturating_add(start),
         })
     }
 }
@@ -55,7 +54,7 @@ pub enum SessionRecord<'a> {
 }
 
 /// The fields of the pile's record.
-#[derive(Clone, Copy, PartialEq, Eq, Debug)]
+#[derive(Clone, Copy)]
 pub struct PileFields {
     /// The pile's number.
     pub pile: u8,
@@ -66,7 +65,7 @@ pub struct PileFields {
 }
 
 /// The fields of a command's record.
-#[derive(Clone, Copy, PartialEq, Eq, Debug)]
+#[derive(Clone, Copy)]
 pub struct CommandFields {
     pub flags: u8,
     pub mask: u8,
@@ -111,7 +110,7 @@ pub fn command_fields(bytes: &[u8]) -> Option<CommandFields>
 }
 
 /// The number of two bytes.
-pub fn two_bytes(low: u8, high: u8) -> u16
+pub(crate) fn two_bytes(low: u8, high: u8) -> u16
     ensures { λ r. ⌜ r ≡ low + 256 * high ⌝ }
 {
     low as u16 + 256 * (high as u16)

@@ -37,7 +37,7 @@ pub fn adapters_of(pile: u8) -> Option<u8>
 
 impl Section {
     /// The section's number in the file.
-    pub fn number(self) -> u8
+    pub(crate) fn number(self) -> u8
         ensures { λ r. ⌜ r ≡ rank self ⌝ }
     {
         match self {
@@ -51,7 +51,7 @@ impl Section {
     }
 
     /// The number of bytes of each record.
-    pub fn record_size(self) -> usize
+    pub(crate) fn record_size(self) -> usize
         ensures { λ r. ⌜ r ≡ bytes-each self ⌝ }
     {
         match self {
@@ -63,7 +63,7 @@ impl Section {
     }
 
     /// Whether the section may have so many records.
-    pub fn allows(self, count: u16) -> bool
+    pub(crate) fn allows(self, count: u16) -> bool
         ensures { λ r. ⌜ r ≡ allowed self count ⌝ }
     {
         match self {
@@ -79,7 +79,7 @@ impl Section {
     }
 
     /// A fault of this section, at a record (0 is the count) and a byte.
-    pub fn fault_at(self, record: u16, byte: usize, kind: FileFault) -> Fault
+    pub(crate) fn fault_at(self, record: u16, byte: usize, kind: FileFault) -> Fault
         ensures { λ r. ⌜ r ≡ fault-at self «record» byte kind ⌝ }
     {
         Fault {
@@ -91,7 +91,7 @@ impl Section {
     }
 
     /// A stretch of the file as a record of this section.
-    pub fn record<'a>(self, stretch: Stretch<'a>) -> SessionRecord<'a>
+    pub(crate) fn record<'a>(self, stretch: Stretch<'a>) -> SessionRecord<'a>
         ensures { λ r. ⌜ r ≡ recordIn self (stretch .entry) ⌝ }
     {
         match self {
@@ -106,7 +106,7 @@ impl Section {
 
 impl<'a> SessionRecord<'a> {
     /// The stretch of the file that carries the record.
-    pub fn stretch(self) -> Stretch<'a>
+    pub(crate) fn stretch(self) -> Stretch<'a>
         ensures { λ r. ⌜ r ≡ carrier (self .entry) ⌝ }
     {
         match self {
@@ -119,7 +119,7 @@ impl<'a> SessionRecord<'a> {
     }
 
     /// What is wrong with the record, if anything is.
-    pub fn fault(self) -> Option<FileFault>
+    pub(crate) fn fault(self) -> Option<FileFault>
         ensures { λ r. ⌜ r ≡ wrong (self .entry) ⌝ }
     {
         match self {

@@ -8,7 +8,8 @@ ghost use Rattle.port.specs.Refusals.{number-of};
 ghost use Rattle.port.specs.State.{reset};
 ghost use Rattle.std.specs.Vec.{made};
 ghost use Rattle.std.specs.declared.result.Result.the-variants.{Err, Ok};
-ghost use Rattle.tools.specs.Piles.{Fitting, Places-for, Plays, Session-played, count-of, numbers-over};
+ghost use Rattle.tools.specs.Piles.{Fitting, Places-for, Plays, Session-played, File-played, count-of, numbers-over};
+ghost use Rattle.tools.specs.Sessions.{In-range};
 use crate::piles::Places;
 use crate::piles::Played;
 use crate::piles::Stop;
@@ -18,6 +19,7 @@ use crate::player::count_taken;
 use crate::player::play_all;
 use crate::records::PileFields;
 use crate::session::Session;
+use crate::session::read_session;
 use agents::memory::ReadBurst;
 use agents::memory::ScriptedMemory;
 use agents::memory::ScriptedMemoryPort;
@@ -32,22 +34,22 @@ use port::width::Width;
 use std::alloc::AllocError;
 use std::alloc::Global;
 
-/// Plays commands, sixteen bytes each, on a port.
-fn play_on<W: Width, P: Port>(port: &mut P, commands: &[u8], answers: &mut [Answer]) -> Result<Summary, Refusal>
+/// Plays the commands of a session on a port.
+fn play_on<W: Width, P: Port>(port: &mut P, session: &Session<'_>, answers: &mut [Answer]) -> Result<Summary, Refusal>
     requires { ⌜ P·Port .sound (now port) ⌝ ∗ ⌜ P·Port .wide ≡ W·Width .wide ⌝ }
     ensures { λ r. ⌜ elim r [
-      | Ok end ↦ ((image : List ℕ) → P·Port .state (now (port .entry)) ≡ reset image → Plays (P·Port .fixed (now (port .entry))) image (now (commands .entry)) (now (answers .exit)) end)
-          × (drop (count-of (now (commands .entry))) (now (answers .exit)) ≡ drop (count-of (now (commands .entry))) (now (answers .entry)))
-      | Err e ↦ (number-of e ≡ 10) × (length (now (answers .entry)) < count-of (now (commands .entry))) × (now (answers .exit) ≡ now (answers .entry))
+      | Ok end ↦ ((image : List ℕ) → P·Port .state (now (port .entry)) ≡ reset image → Plays (P·Port .fixed (now (port .entry))) image (now (now (session .entry) .commands .bytes)) (now (answers .exit)) end)
+          × (drop (count-of (now (now (session .entry) .commands .bytes))) (now (answers .exit)) ≡ drop (count-of (now (now (session .entry) .commands .bytes))) (now (answers .entry)))
+      | Err e ↦ (number-of e ≡ 10) × (length (now (answers .entry)) < count-of (now (now (session .entry) .commands .bytes))) × (now (answers .exit) ≡ now (answers .entry))
     ] ⌝ }
 {
     let top = port.status().numbers;
-    play_all::<W, P>(port, commands, answers)?;
-    let taken = count_taken(&answers[0..commands.len() / 16]);
+    play_all::<W, P>(port, session, answers)?;
+    let taken = count_taken(&answers[0..session.command_count()]);
     Ok(Summary { top, taken, owed: port.status().words_owed })
 }
 
-/// Builds a pile over storage, and plays commands on it. (A `Storage` by value could not be handed on from here.)
+/// Builds the pile of a session over storage, and plays its commands. (A `Storage` by value could not be handed on from here.)
 fn play_pile<'x>(
     pile: PileFields,
     bytes: &'x mut [u8],
@@ -55,15 +57,15 @@ fn play_pile<'x>(
     gaps: &'x [u8],
     words: &'x mut [u64],
     bursts: &'x mut [ReadBurst],
-    commands: &[u8],
+    session: &Session<'_>,
     answers: &mut [Answer],
 ) -> Result<Summary, Refusal>
     ensures { λ r. ⌜ elim r [
-      | Ok end ↦ Plays (numbers-over pile (length (now (bytes .entry))) (now (waits .entry)) (now (gaps .entry))) (now (bytes .entry)) (now (commands .entry)) (now (answers .exit)) end
-          × (drop (count-of (now (commands .entry))) (now (answers .exit)) ≡ drop (count-of (now (commands .entry))) (now (answers .entry)))
+      | Ok end ↦ Plays (numbers-over pile (length (now (bytes .entry))) (now (waits .entry)) (now (gaps .entry))) (now (bytes .entry)) (now (now (session .entry) .commands .bytes)) (now (answers .exit)) end
+          × (drop (count-of (now (now (session .entry) .commands .bytes))) (now (answers .exit)) ≡ drop (count-of (now (now (session .entry) .commands .bytes))) (now (answers .entry)))
       | Err e ↦ (now (answers .exit) ≡ now (answers .entry))
           × (((number-of e ≡ 2) × (Fitting pile (length (now (bytes .entry))) (length (now (waits .entry))) (length (now (gaps .entry))) (length (now (words .entry))) (length (now (bursts .entry))) → ⊥))
-            ⊎ ((number-of e ≡ 10) × (length (now (answers .entry)) < count-of (now (commands .entry)))))
+            ⊎ ((number-of e ≡ 10) × (length (now (answers .entry)) < count-of (now (now (session .entry) .commands .bytes)))))
     ] ⌝ }
 {
     if pile.pile != 2 {
@@ -71,7 +73,7 @@ fn play_pile<'x>(
     }
     let storage = Storage { bytes, waits, gaps, words, bursts };
     match ScriptedMemory::<W4>::new(storage, pile.burst_limit, pile.pending_limit) {
-        Ok(mut memory) => play_on::<W4, ScriptedMemory<'x, W4>>(&mut memory, commands, answers),
+        Ok(mut memory) => play_on::<W4, ScriptedMemory<'x, W4>>(&mut memory, session, answers),
         Err((refusal, _)) => Err(refusal),
     }
 }
@@ -90,14 +92,25 @@ fn places_for(heap: Global, session: &Session<'_>) -> Result<Places, AllocError>
     })
 }
 
-/// Plays a session on the pile that it names.
-pub fn play_session(heap: Global, session: &Session<'_>) -> Result<Played, Stop>
-    ensures { λ r. ⌜ Session-played (now (session .entry)) r ⌝ }
+/// Plays a session that was read on the pile that it names.
+fn play_session(heap: Global, session: &Session<'_>) -> Result<Played, AllocError>
+    requires { ⌜ In-range (now session) ⌝ }
+    ensures { λ r. ⌜ made r (Session-played (now (session .entry))) ⌝ }
 {
     let Places { mut bytes, mut words, mut bursts, mut answers } = places_for(heap, session)?;
-    let Session { pile, waits, gaps, commands, .. } = *session;
-    match play_pile(pile, &mut bytes, waits.bytes, gaps.bytes, &mut words, &mut bursts, commands.bytes, &mut answers) {
-        Ok(summary) => Ok(Played { answers, summary }),
-        Err(refusal) => Err(Stop::Refused(refusal)),
+    let Session { pile, waits, gaps, .. } = *session;
+    match play_pile(pile, &mut bytes, waits.bytes, gaps.bytes, &mut words, &mut bursts, session, &mut answers) {
+        Ok(summary) => Ok(Played { pile: pile.pile, answers, summary }),
+        Err(_) => unreachable(),
+    }
+}
+
+/// Reads a session file and plays it. A file that is no session is not played, and its first fault is the answer.
+pub fn play_file(heap: Global, file: &[u8]) -> Result<Played, Stop>
+    ensures { λ r. ⌜ File-played (file .entry) r ⌝ }
+{
+    match read_session(file) {
+        Ok(session) => Ok(play_session(heap, &session)?),
+        Err(fault) => Err(Stop::Fault(fault)),
     }
 }

@@ -26,7 +26,7 @@ impl<'a> Reader<'a> {
     }
 
     /// The number of bytes that are not read yet.
-    pub fn left(&self) -> usize
+    fn left(&self) -> usize
         ensures { λ r. ⌜ now (self .entry) .place + r ≡ length (now (now (self .entry) .file)) ⌝ }
     {
         self.file.len() - self.place
@@ -93,11 +93,7 @@ impl<'a> Reader<'a> {
     }
 
     /// The next record of a section, the one with this number, if it is there and nothing is wrong with it.
-    pub fn section_record(
-        &mut self,
-        section: Section,
-        number: u16,
-    ) -> Result<SessionRecord<'a>, Fault>
+    fn section_record(&mut self, section: Section, number: u16) -> Result<SessionRecord<'a>, Fault>
         ensures same { λ _. ⌜ now (self .exit) .file ≡ now (self .entry) .file ⌝ }
         ensures judged { λ r. ⌜ elim r [
           | Ok x ↦ (record-fault section (now (now (self .entry) .file)) (now (self .entry) .place) number ≡ None)

@@ -1,20 +1,24 @@
-use Prim.Native.Nat.{ℕ, _+_, _-_, _*_, _/_}
+use Prim.Native.Nat.{ℕ, _+_, _*_, _/_}
 use mathlib.Core.Path.{_≡_, ap, subst, sym, _∙_}
 use native.Mathlib.Omega.{arith}
+use denote.Ref.{now}
 use lib.ListN.{drop, length}
 use Rattle.std.proofs.shelf.Lists.{drop-drop, drop-set-lt}
 use Rattle.port.specs.Legal.{Legal}
 use Rattle.port.specs.declared.numbers.Numbers.{Numbers}
+use Rattle.tools.specs.Bytes.{bytes-at}
 use Rattle.tools.specs.Calls.{Played}
+use Rattle.tools.specs.Fields.{command-record}
 use Rattle.tools.specs.Plays.{Session-ran, commands-in}
 use Rattle.tools.specs.declared.records.CommandFields.{CommandFields}
+use Rattle.tools.specs.declared.records.Stretch.{Stretch}
 use Rattle.tools.proofs.Sequences.{all-ran, fields-are, more-ran}
 use Rattle.tools.proofs.player.play_all.Needs as need
 
 pub loop-i-again : need.loop-i-again
 loop-i-again g c =
     let i = c .loop-i .i in
-    let xs = c .args .commands .now in
+    let xs = now (c .args .session .now .commands .bytes) in
     let bs = c .loop-i .answers in
     let b = c .play-one .result in
     let n = g .P·Port .fixed (c .args .port .now) in
@@ -22,8 +26,10 @@ loop-i-again g c =
     let υ = g .P·Port .state (c .play-one .last .port) in
     let same = c .loop-i .inv .1 in
     let legal = subst (λ (m : Numbers). Legal m τ) same (g .P·Port .legal (c .loop-i .port) (c .loop-i .inv .0)) in
-    let fields = fields-are xs (16 * i) (16 * i + 16 - 16 * i) (c .in-Some .fields) (omega arith) (c .in-Some .ensures tt) in
-    let played = subst (λ (m : Numbers). Played m τ (c .in-Some .fields) b υ) same (c .play-one .ensures .plays) in
+    let fields : c .in-Some-command-fields .fields ≡ command-record (bytes-at xs (16 * i) 16) =
+          fields-are (now (c .stretch .result .bytes)) (bytes-at xs (16 * i) 16) (c .in-Some-command-fields .fields)
+            (ap (λ (t : Stretch). now (t .bytes)) (c .stretch .ensures) ∙ c .in-Some .ensures tt .1 .holds) (c .in-Some-command-fields .ensures tt) in
+    let played = subst (λ (m : Numbers). Played m τ (c .in-Some-command-fields .fields) b υ) same (c .play-one .ensures .plays) in
     let plays = subst (λ (f : CommandFields). Played n τ f b υ) fields played in
     ( c .play-one .ensures .sound
     , c .play-one .ensures .fixed ∙ same
@@ -32,7 +38,7 @@ loop-i-again g c =
 
 pub returns : need.returns
 returns g c =
-    let xs = c .args .commands .now in
+    let xs = now (c .args .session .now .commands .bytes) in
     let bs = c .loop-i .answers in
     let n = g .P·Port .fixed (c .args .port .now) in
     let σ = g .P·Port .state (c .args .port .now) in
