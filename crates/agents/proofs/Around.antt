@@ -1,18 +1,15 @@
 -- Laws of the items of a queue that go round its storage.
-use mathlib.Core.Path.{_≡_, refl, sym, ap, subst, _∙_}
+use mathlib.Core.Path.{_≡_, refl, ap, _∙_}
 use mathlib.Core.Bool.{Bool, true, false, cond}
 use mathlib.Core.List.{List, [], _∷_, _++_, append-assoc}
 use Prim.Native.Nat.{ℕ, zero, suc, _+_, _-_, _≤_, _<_}
 use native.Mathlib.Omega.{arith}
-use borrow.Author.Needs.{needs}
 use borrow.Author.Tests.{ltb-true, ltb-false}
 use lib.Dec.{ltb}
-use lib.ListN.{length, take, drop, set, getD, length-append, length-drop, length-take, length-set}
+use lib.ListN.{length, take, drop, set, getD, length-append, length-drop, length-set}
 use lib.Seq.{take-set-lt, take-set-le, take-append-le, length-take-le, take-all, getD-set-same}
 use Rattle.std.proofs.shelf.Lists.{drop-set-add, drop-set-lt, set-append-left, set-append-right, take-more-set, drop-more, take-more, drop-all, append-nil}
-use Rattle.agents.specs.Items.{around, start-of, end-of, first-of, with-first}
-use Rattle.std.specs.declared.option.Option.{Option}
-use Rattle.std.specs.declared.option.Option.the-variants.{Some, None}
+use Rattle.agents.specs.Items.{around, start-of, end-of, with-first}
 
 put-low : {X : Type 0} (s : List X) (h n : ℕ) (x : X) → h ≤ length s → n < length s - h → around (set s (h + n) x) h (n + 1) ≡ around s h n ++ (x ∷ [])
 unfolding around

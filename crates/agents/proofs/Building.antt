@@ -1,22 +1,22 @@
 -- A memory that was built keeps what every scripted memory keeps.
-use Prim.Native.Nat.{ℕ, _+_, _-_, _*_, _/_, _%_, _^_, _≤_, _<_}
+use Prim.Native.Nat.{ℕ, _+_, _-_, _*_, _/_, _%_, _≤_, _<_}
 use mathlib.Core.Path.{_≡_, refl, sym, ap, subst, _∙_}
 use mathlib.Core.Logic.{⊎-elim}
-use mathlib.Core.List.{List, [], _∷_, map}
+use mathlib.Core.List.{List, [], map}
 use native.Mathlib.Omega.{arith}
-use lib.ListN.{length, getD}
+use lib.ListN.{length}
 use lib.Pow.{pow-pos}
 use Rattle.agents.proofs.Patience.{due-below}
 use Rattle.agents.proofs.Served.{same-state, with-plain}
 use Rattle.agents.specs.Building.{Buildable, Built, numbers-of}
-use Rattle.agents.specs.Memory.{Sound, fixed-of, lefts, state-of}
+use Rattle.agents.specs.Memory.{lefts, state-of}
 use Rattle.agents.specs.Queue.{Fit, items, room}
 use Rattle.agents.specs.Scripts.{greatest-of, listed, place-of, value-now}
 use Rattle.agents.specs.Timing.{Patient}
 use Rattle.agents.specs.declared.memory.Parts.{Parts}
 use Rattle.port.specs.Lanes.{byte-in}
 use Rattle.port.specs.Legal.{Legal, tally}
-use Rattle.port.specs.State.{Ranges, Within, reset}
+use Rattle.port.specs.State.{Ranges, reset}
 use Rattle.port.specs.Widths.{Wide}
 use Rattle.port.specs.declared.numbers.Numbers.{Numbers}
 use Rattle.port.specs.declared.record.PortRecord.{PortRecord}

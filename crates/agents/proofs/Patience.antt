@@ -1,28 +1,26 @@
 -- Within the scripts' delays no command waits longer than A, and no owed word stays out longer than L.
-use Prim.Native.Nat.{ℕ, zero, suc, _+_, _-_, _*_, _≤_, _<_}
+use Prim.Native.Nat.{ℕ, _+_, _-_, _*_, _≤_, _<_}
 use mathlib.Core.Path.{_≡_, refl, sym, ap, subst, _∙_}
-use mathlib.Core.Bool.{Bool, true, false, cond, _||_}
+use mathlib.Core.Bool.{true, _||_}
 use mathlib.Core.Logic.{_⊎_, inl, inr, ⊎-elim}
-use mathlib.Core.List.{List, [], _∷_, _++_}
+use mathlib.Core.List.{List, [], _∷_}
 use native.Mathlib.Nat.{add-mul, mul-comm, mul-le-mul-right}
 use native.Mathlib.Numerals.{add-one}
 use native.Mathlib.Omega.{arith}
 use lib.Dec.{leb, ltb}
-use lib.ListN.{length, drop}
+use lib.ListN.{length}
 use Rattle.std.proofs.shelf.Lists.{length-append}
-use Rattle.std.proofs.shelf.Tests.{cond-both, cond-true, cond-false, leb-true, leb-false, ltb-true, ltb-false, lt-leb, le-leb, or-cases, or-parts, cases-lt}
+use Rattle.std.proofs.shelf.Tests.{cond-both, cond-true, cond-false, leb-true, leb-false, ltb-true, lt-leb, le-leb, or-cases, or-parts, cases-lt}
 use Rattle.agents.specs.Timing.{first-due, word-back, bursts-full, reply-to, oldest, calls-due, Patient}
 use Rattle.port.proofs.Tally.{one-came-below}
 use Rattle.port.specs.Legal.{Legal, Reads-within, total}
-use Rattle.port.specs.Machine.{Answers, First, acted, given, next, one-came, silence-after}
+use Rattle.port.specs.Machine.{Answers, First, acted, given, one-came, silence-after}
 use Rattle.port.specs.State.{State, Within}
-use Rattle.port.specs.declared.addresses.WordOffset.{WordOffset}
 use Rattle.port.specs.declared.calls.Command.{Command}
 use Rattle.port.specs.declared.calls.Command.the-variants.{Idle, Read, Write}
 use Rattle.port.specs.declared.calls.Reply.{Reply}
 use Rattle.port.specs.declared.calls.Reply.the-variants as reply
 use Rattle.port.specs.declared.numbers.Numbers.{Numbers}
-use Rattle.std.specs.declared.option.Option.{Option}
 use Rattle.std.specs.declared.option.Option.the-variants.{Some, None}
 
 -- A word that comes back ---------------------------------------------------------

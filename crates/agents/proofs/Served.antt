@@ -1,18 +1,18 @@
 -- A clocked call of a scripted memory, from its steps: what it keeps, how its state moves, and its timing.
-use Prim.Native.Nat.{ℕ, zero, suc, _+_, _-_, _*_, _≤_, _<_}
+use Prim.Native.Nat.{ℕ, _+_, _-_, _*_, _≤_, _<_}
 use mathlib.Core.Path.{_≡_, refl, sym, ap, subst, _∙_}
-use mathlib.Core.Bool.{Bool, true, false, cond, _||_}
-use mathlib.Core.List.{List, [], _∷_, _++_, map}
+use mathlib.Core.Bool.{_||_}
+use mathlib.Core.List.{List, [], _∷_, _++_}
 use native.Mathlib.Nat.{add-mul, mul-le-mul-right}
 use native.Mathlib.Omega.{arith}
-use lib.Dec.{leb, ltb}
+use lib.Dec.{ltb}
 use lib.ListN.{length, getD}
 use Rattle.std.proofs.shelf.Lists.{length-map}
 use Rattle.std.proofs.shelf.Tests.{cond-both, leb-false, ltb-true, or-parts}
 use Rattle.agents.proofs.Greatest.{at-most-greatest}
 use Rattle.agents.proofs.Patience.{Eased, due-first, eased, in-kind, patient-call, within-call, words-fit}
-use Rattle.agents.specs.Memory.{Acted, Alike, Gave, Ready, Sound, Timed, fixed-of, lefts, state-of}
-use Rattle.agents.specs.Queue.{items, room}
+use Rattle.agents.specs.Memory.{Acted, Gave, Ready, Sound, Timed, fixed-of, lefts, state-of}
+use Rattle.agents.specs.Queue.{items}
 use Rattle.agents.specs.Scripts.{greatest-of, listed, next-place, place-of, value-now}
 use Rattle.agents.specs.Timing.{Patient, bursts-full, gap-place-after, reply-to, wait-place-after, word-back}
 use Rattle.agents.specs.declared.memory.Parts.{Parts}
@@ -21,7 +21,7 @@ use Rattle.port.proofs.Rules.{first-later, first-sooner, opening-fits}
 use Rattle.port.proofs.Tally.{words-below}
 use Rattle.port.specs.Lanes.{byte-in, stored, words-at}
 use Rattle.port.specs.Legal.{Legal, Open-within, tally}
-use Rattle.port.specs.Machine.{Clocks, Answers, First, acted, beat-offset, command-rule, given, hold-rule, lanes-rule, next, opening-rule, read-words, refusal}
+use Rattle.port.specs.Machine.{Clocks, Answers, First, acted, beat-offset, command-rule, given, hold-rule, lanes-rule, next, opening-rule, refusal}
 use Rattle.port.specs.State.{State, Within}
 use Rattle.port.specs.declared.addresses.WordOffset.{WordOffset}
 use Rattle.port.specs.declared.calls.Answer.the-variants.{Clocked}

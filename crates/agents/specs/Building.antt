@@ -3,9 +3,11 @@ use Prim.Native.Nat.{ℕ, _+_, _*_, _/_, _%_, _≤_}
 use mathlib.Core.Path.{_≡_}
 use mathlib.Core.List.{List}
 use lib.ListN.{length}
+use denote.Ref.{now}
 use Rattle.agents.specs.Memory.{Sound, fixed-of, state-of}
 use Rattle.agents.specs.Scripts.{greatest-of, listed, place-of}
 use Rattle.agents.specs.declared.memory.Parts.{Parts}
+use Rattle.agents.specs.declared.memory.Storage.{Storage}
 use Rattle.port.specs.State.{reset}
 use Rattle.port.specs.declared.numbers.Numbers.{Numbers}
 
@@ -25,6 +27,16 @@ pub record Buildable (size wait-values gap-values word-places burst-places b p :
   pub gaps-few : gap-values ≤ 256
   pub words-room : b * p ≤ word-places
   pub bursts-room : p ≤ burst-places
+
+-- this storage is enough for a memory with these limits
+abbrev pub Enough : Storage → ℕ → ℕ → Type 0
+Enough s b p = Buildable (length (now (s .bytes))) (length (now (s .waits))) (length (now (s .gaps))) (length (now (s .words))) (length (now (s .bursts))) b p
+
+-- storage that holds what it held
+abbrev pub Unchanged : Storage → Storage → Type 0
+Unchanged was is =
+    (now (is .bytes) ≡ now (was .bytes)) × (now (is .waits) ≡ now (was .waits)) × (now (is .gaps) ≡ now (was .gaps))
+    × (now (is .words) ≡ now (was .words)) × (now (is .bursts) ≡ now (was .bursts))
 
 -- L is the greatest gap value, and A the greatest wait value and B (L + 1)
 abbrev pub numbers-of : ℕ → ℕ → List ℕ → List ℕ → ℕ → ℕ → Numbers

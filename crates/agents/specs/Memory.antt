@@ -1,7 +1,7 @@
 -- The state that a scripted memory stands for, what it keeps, and what its steps leave.
 use Prim.Native.Nat.{ℕ, _+_, _*_, _≤_, _<_}
 use mathlib.Core.Path.{_≡_}
-use mathlib.Core.List.{List, [], _∷_, _++_, map}
+use mathlib.Core.List.{List, _++_, map}
 use lib.ListN.{length}
 use denote.Ref.{now}
 use Rattle.agents.specs.Queue.{items, room, Fit}

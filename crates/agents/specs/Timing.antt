@@ -1,7 +1,7 @@
 -- When a scripted memory waits, and when it returns a word. v and g are the values at which its wait script and its
 -- gap script stand, r and s the waits and the silence of its state: all as they are at the start of the call.
 use Prim.Native.Nat.{ℕ, _+_, _-_, _*_, _≤_}
-use mathlib.Core.Bool.{Bool, true, false, cond, _||_}
+use mathlib.Core.Bool.{Bool, cond, _||_}
 use mathlib.Core.List.{List, [], _∷_}
 use lib.Dec.{leb, ltb}
 use lib.ListN.{length}

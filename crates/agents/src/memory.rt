@@ -1,4 +1,5 @@
-//! The scripted memory: a port over bytes that are lent to it, which waits and returns words as two scripts say.
+//! The scripted memory: a port over bytes that are lent to it. One script says how often each command waits, and another
+//! how many calls go by before each word.
 use crate::queue::Ring;
 use crate::script::Script;
 use port::record::PortRecord;

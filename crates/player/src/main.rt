@@ -56,10 +56,17 @@ fn read_input(rt: &LibcRuntime) -> io::Result<Vec<u8>> {
 /// Prints a session that was played.
 fn print_played(rt: &LibcRuntime, played: &Played) -> io::Result<()> {
     let Summary { top, taken, owed } = played.summary;
-    let head = HeadLine { pile: played.pile, top };
+    let head = HeadLine {
+        pile: played.pile,
+        top,
+    };
     println!(rt, "{head}")?;
     for (index, answer) in played.answers.iter().enumerate() {
-        let line = CallLine { index, answer: *answer, width: top.width };
+        let line = CallLine {
+            index,
+            answer: *answer,
+            width: top.width,
+        };
         println!(rt, "{line}")?;
     }
     let end = EndLine { taken, owed };

@@ -326,9 +326,10 @@ after-take (c ∷ cs) (b ∷ bs) h = after-take cs bs (record { call = c; answer
 pub served-more : (n : Numbers) (image : List ℕ) (h : List Event) (σ : State) (c : Command) (b : Answer) (τ : State) → Legal n σ → book (n .width) image h ≡ σ → Served n image h → Moves n σ c b τ →
     Served n image (record { call = c; answer = b } ∷ h) × (book (n .width) image (record { call = c; answer = b } ∷ h) ≡ τ)
 unfolding Served book
-served-more n image h σ c b τ legal is served moves =
-    ( (lawful n image h σ c b τ legal is served moves, served)
-    , ap (λ (ρ : State). fed (n .width) ρ c b) is ∙ fed-moves n σ c b τ moves )
+served-more n image h σ c b τ legal is served moves = (
+  (lawful n image h σ c b τ legal is served moves, served),
+  ap (λ (ρ : State). fed (n .width) ρ c b) is ∙ fed-moves n σ c b τ moves,
+)
 
 pub ran-none : (n : Numbers) (σ : State) (bs : List Answer) → Ran n σ [] bs σ
 ran-none n σ bs image h is served = (served, is)

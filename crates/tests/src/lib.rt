@@ -3,8 +3,8 @@
 #[cfg(test)]
 mod files;
 #[cfg(test)]
+mod printing;
+#[cfg(test)]
 mod queues;
 #[cfg(test)]
 mod runs;
-#[cfg(test)]
-mod printing;

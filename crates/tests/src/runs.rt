@@ -21,11 +21,19 @@ use port::width::W8Width;
 use std::test::*;
 
 fn read(offset: u32, count: u16) -> Command {
-    Command::Read { offset: WordOffset(offset), count }
+    Command::Read {
+        offset: WordOffset(offset),
+        count,
+    }
 }
 
 fn write(offset: u32, count: u16, mask: u8, word: Word) -> Command {
-    Command::Write { offset: WordOffset(offset), count, mask, word }
+    Command::Write {
+        offset: WordOffset(offset),
+        count,
+        mask,
+        word,
+    }
 }
 
 /// Builds a memory over storage and runs a list of calls on it. (A function
@@ -133,7 +141,13 @@ fn holds_what_waits() -> Result<(), Fail> {
 /// A read waits while P bursts are owed, the one whose last word comes in this very call among them.
 #[test]
 fn full_reads_wait() -> Result<(), Fail> {
-    let calls = [read(0, 2), read(15, 1), read(15, 1), read(15, 1), Command::Idle];
+    let calls = [
+        read(0, 2),
+        read(15, 1),
+        read(15, 1),
+        read(15, 1),
+        Command::Idle,
+    ];
     let mut bytes = BYTES;
     let mut answers = [BLANK; 5];
     check(run_over!(W1, &mut bytes, 2, &[0], &[0], &calls, &mut answers).is_ok())?;
@@ -153,7 +167,15 @@ fn full_reads_wait() -> Result<(), Fail> {
 fn refuses_without_places() -> Result<(), Fail> {
     let mut bytes = BYTES;
     let mut answers = [BLANK; 1];
-    match run_over!(W1, &mut bytes, 2, &[0], &[0], &[Command::Idle, Command::Idle], &mut answers) {
+    match run_over!(
+        W1,
+        &mut bytes,
+        2,
+        &[0],
+        &[0],
+        &[Command::Idle, Command::Idle],
+        &mut answers
+    ) {
         Err(Refusal::NoPlace) => same(&answers, &[BLANK]),
         _ => Err(Fail::new("ran")),
     }

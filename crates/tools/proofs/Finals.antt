@@ -20,7 +20,9 @@ unfolding book Served
 plays n image xs bs σ τ first last m count at-reset ran opening closing counted =
     let law = ran image [] (sym at-reset) tt in
     record {
-      served = law .0; rightly = law .2;
+      served = law .0;
+      rightly = law .2;
       top = ap (λ (p : PortRecord). p .numbers) opening;
       taken = counted;
-      owed = ap (λ (p : PortRecord). p .«words_owed») closing ∙ ap (λ (ρ : State). length (ρ .owed)) (sym (law .1)) }
+      owed = ap (λ (p : PortRecord). p .«words_owed») closing ∙ ap (λ (ρ : State). length (ρ .owed)) (sym (law .1));
+    }

@@ -34,15 +34,17 @@ host-none w b f small even = rw (lt-leb 3 (f .flags) (omega arith), placed w b f
 
 pub converts-read : (w : ℕ) (b : Option OpenBurst) (f : CommandFields) (o : WordOffset) → f .flags ≡ 1 → Placed w b (f .address) (Ok o) → Converted w b f (Ok (Read o (f .count)))
 converts-read w b f o one at =
-    let offset : o ≡ record { 0 = offset-in w (f .address) } = ap (λ (a : ℕ). record { 0 = a }) (at .0) in
-    ( host-none w b f (omega arith) (at .1)
-    , rw (ne-eqb (f .flags) 0 (omega arith), eq-eqb (f .flags) 1 one) (ap (λ (q : WordOffset). Read q (f .count)) offset) )
+    let offset : o ≡ record { 0 = offset-in w (f .address) } = ap (λ (a : ℕ). record { 0 = a }) (at .0) in (
+      host-none w b f (omega arith) (at .1),
+      rw (ne-eqb (f .flags) 0 (omega arith), eq-eqb (f .flags) 1 one) (ap (λ (q : WordOffset). Read q (f .count)) offset),
+    )
 
 pub converts-write : (w : ℕ) (b : Option OpenBurst) (f : CommandFields) (o : WordOffset) → f .flags ≡ 2 → Placed w b (f .address) (Ok o) → Converted w b f (Ok (Write o (f .count) (f .mask) (f .bits)))
 converts-write w b f o two at =
-    let offset : o ≡ record { 0 = offset-in w (f .address) } = ap (λ (a : ℕ). record { 0 = a }) (at .0) in
-    ( host-none w b f (omega arith) (at .1)
-    , rw (ne-eqb (f .flags) 0 (omega arith), ne-eqb (f .flags) 1 (omega arith)) (ap (λ (q : WordOffset). Write q (f .count) (f .mask) (f .bits)) offset) )
+    let offset : o ≡ record { 0 = offset-in w (f .address) } = ap (λ (a : ℕ). record { 0 = a }) (at .0) in (
+      host-none w b f (omega arith) (at .1),
+      rw (ne-eqb (f .flags) 0 (omega arith), ne-eqb (f .flags) 1 (omega arith)) (ap (λ (q : WordOffset). Write q (f .count) (f .mask) (f .bits)) offset),
+    )
 
 -- what is refused before the port is looked at
 pub plays-host : (n : Numbers) (σ : State) (f : CommandFields) (r : Refusal) (w : ℕ) → n .width ≡ w → host-rule w (σ .burst) f ≡ Some (number-of r) → Played n σ f (Refused r) σ

@@ -60,10 +60,11 @@ push n σ fs bs τ f b υ same legal ran played image h is served =
     let so-far = ran image h is served in
     let k = after-commands (n .width) fs bs h in
     let more = after-push (n .width) fs bs f b h same in
-    let one = one-more n image k τ f b υ legal (so-far .1) (so-far .0) played in
-    ( subst (Served n image) (sym more) (one .0)
-    , ap (λ (g : List Event). book (n .width) image g) more ∙ one .1
-    , rightly-push n image fs bs f b h same (so-far .2) (subst (λ (ρ : State). Rightly n ρ f b) (sym (so-far .1)) (rightly n τ f b υ played)) )
+    let one = one-more n image k τ f b υ legal (so-far .1) (so-far .0) played in (
+      subst (Served n image) (sym more) (one .0),
+      ap (λ (g : List Event). book (n .width) image g) more ∙ one .1,
+      rightly-push n image fs bs f b h same (so-far .2) (subst (λ (ρ : State). Rightly n ρ f b) (sym (so-far .1)) (rightly n τ f b υ played)),
+    )
 
 pub none-ran : (n : Numbers) (σ : State) (bs : List Answer) → Session-ran n σ [] bs σ
 none-ran n σ bs image h is served = (served, is, tt)
@@ -99,7 +100,7 @@ all-ran n σ xs bs i τ ran image h is served =
 pub fields-are : (ys zs : List ℕ) (f : CommandFields) → ys ≡ zs → Some f ≡ commandIn ys → f ≡ command-record zs
 fields-are ys zs f e found =
     let here : (t : Bool) → Some f ≡ cond t (Some (command-record ys)) None → f ≡ command-record ys =
-          λ t. elim t as (λ s. Some f ≡ cond s (Some (command-record ys)) None → f ≡ command-record ys) [ true ↦ λ q. cc | false ↦ λ q. cc ] in
+    λ t. elim t as (λ s. Some f ≡ cond s (Some (command-record ys)) None → f ≡ command-record ys) [ true ↦ λ q. cc | false ↦ λ q. cc ] in
     here (eqb (length ys) 16) found ∙ ap command-record e
 
 -- Taken commands --------------------------------------------------------------------

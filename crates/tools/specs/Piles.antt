@@ -65,8 +65,8 @@ top-numbers c = numbers-of 4 (length (c .memory-bytes)) (c .wait-bytes) (c .gap-
 abbrev pub File-played : RefT (List ℕ) → Result Played Stop → Type 0
 File-played whole (Ok p) =
     (c : Contents) × Well-formed (now whole) c × (p .pile ≡ c .pile-number)
-      × Plays (top-numbers c) (c .memory-bytes) (c .command-bytes) (vec-items (p .answers)) (p .summary)
-      × (length (vec-items (p .answers)) ≡ count-of (c .command-bytes))
+    × Plays (top-numbers c) (c .memory-bytes) (c .command-bytes) (vec-items (p .answers)) (p .summary)
+    × (length (vec-items (p .answers)) ≡ count-of (c .command-bytes))
 File-played whole (Err (stop.Fault f)) = Rejected whole f
 File-played whole (Err stop.NoMemory) = Unit {0}
 

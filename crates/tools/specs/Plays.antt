@@ -51,7 +51,7 @@ abbrev pub Session-ran : Numbers → State → List CommandFields → List Answe
 Session-ran n σ fs bs τ =
     (image : List ℕ) (earlier : List Event) → book (n .width) image earlier ≡ σ → Served n image earlier →
     Served n image (after-commands (n .width) fs bs earlier) × (book (n .width) image (after-commands (n .width) fs bs earlier) ≡ τ)
-      × All-rightly n image fs bs earlier
+    × All-rightly n image fs bs earlier
 
 -- how many commands were taken, each beat counted
 abbrev pub takes-in : List Answer → ℕ

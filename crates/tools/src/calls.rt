@@ -36,11 +36,19 @@ impl CommandFields {
             0 => Ok(Command::Idle),
             1 => {
                 let offset = offset_of::<W>(burst, self.address)?;
-                Ok(Command::Read { offset, count: self.count })
+                Ok(Command::Read {
+                    offset,
+                    count: self.count,
+                })
             }
             2 => {
                 let offset = offset_of::<W>(burst, self.address)?;
-                Ok(Command::Write { offset, count: self.count, mask: self.mask, word: self.bits })
+                Ok(Command::Write {
+                    offset,
+                    count: self.count,
+                    mask: self.mask,
+                    word: self.bits,
+                })
             }
             _ => Err(Refusal::ReadAndWrite),
         }

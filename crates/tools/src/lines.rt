@@ -15,8 +15,17 @@ pub struct HeadLine {
 pub impl fmt::Display for HeadLine as HeadLineDisplay {
     fn fmt<W: fmt::Write>(&self, f: &mut fmt::Formatter<W>) -> fmt::Result {
         let pile = self.pile;
-        let Numbers { width, words, wait_bound, silence_bound, .. } = self.top;
-        write!(f, "pile {pile} width {width} words {words} A {wait_bound} L {silence_bound}")
+        let Numbers {
+            width,
+            words,
+            wait_bound,
+            silence_bound,
+            ..
+        } = self.top;
+        write!(
+            f,
+            "pile {pile} width {width} words {words} A {wait_bound} L {silence_bound}"
+        )
     }
 }
 
@@ -77,7 +86,15 @@ pub impl fmt::Display for EndLine as EndLineDisplay {
 pub impl fmt::Display for Fault as FaultDisplay {
     fn fmt<W: fmt::Write>(&self, f: &mut fmt::Formatter<W>) -> fmt::Result {
         let number = self.kind as u8;
-        let Fault { section, record, byte, .. } = *self;
-        write!(f, "fault {number} section {section} record {record} byte {byte}")
+        let Fault {
+            section,
+            record,
+            byte,
+            ..
+        } = *self;
+        write!(
+            f,
+            "fault {number} section {section} record {record} byte {byte}"
+        )
     }
 }

@@ -17,7 +17,11 @@ use port::width::Width;
 
 /// Puts the commands of a session to the port, and stores an answer for each. Refused where there are fewer
 /// places than commands.
-pub(crate) fn play_all<W: Width, P: Port>(port: &mut P, session: &Session<'_>, answers: &mut [Answer]) -> Result<(), Refusal>
+pub(crate) fn play_all<W: Width, P: Port>(
+    port: &mut P,
+    session: &Session<'_>,
+    answers: &mut [Answer],
+) -> Result<(), Refusal>
     requires { ⌜ P·Port .sound (now port) ⌝ ∗ ⌜ P·Port .wide ≡ W·Width .wide ⌝ }
     ensures ran { λ r. ⌜ elim r [
       | Ok _ ↦ (length (now (now (session .entry) .commands .bytes)) / 16 ≤ length (now (answers .entry)))

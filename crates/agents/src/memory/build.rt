@@ -1,16 +1,15 @@
-//! Building a scripted memory over storage that is lent to it.
-ghost use Prim.Native.Nat.{ℕ, _+_, _*_, _/_, _≤_, _<_};
+//! Building a scripted memory over storage that is lent to it. Storage or limits out of range are refused, and the
+//! storage comes back.
+ghost use Prim.Native.Nat.{ℕ, _≤_, _<_};
 ghost use lib.Dec.{leb};
-ghost use lib.ListN.{length, getD};
 ghost use mathlib.Core.Bool.{_&&_};
 ghost use mathlib.Core.Path.{_≡_};
-ghost use Rattle.agents.specs.Building.{Buildable, Built, numbers-of};
+ghost use Rattle.agents.specs.Building.{Built, Enough, Unchanged, numbers-of};
 ghost use Rattle.agents.specs.Memory.{Whole};
 ghost use Rattle.port.specs.Lanes.{byte-in};
 ghost use Rattle.port.specs.Refusals.{number-of};
 ghost use Rattle.std.specs.declared.result.Result.the-variants.{Ok, Err};
 use crate::memory::Parts;
-use crate::memory::ReadBurst;
 use crate::memory::ScriptedMemory;
 use crate::memory::Storage;
 use crate::queue::Ring;
@@ -55,14 +54,19 @@ fn numbers_for<W: Width>(
     }
 }
 
+/// The elements of a slice of bytes are bytes: for contracts, which know this only of a slice that is handed on.
+fn look_at(bytes: &[u8])
+    ensures { λ _. ⌜ ((address : ℕ) → byte-in (now (bytes .entry)) address < 256) ⌝ }
+{
+    let _ = bytes.first();
+}
+
 impl<'a> Storage<'a> {
     /// Whether a memory with these limits can be built over the storage.
     fn check(&self, burst_limit: u8, pending_limit: u8) -> Result<(), Refusal>
         ensures { λ r. ⌜ elim r [
-          | Ok _ ↦ Buildable (length (now (now (self .entry) .bytes))) (length (now (now (self .entry) .waits))) (length (now (now (self .entry) .gaps)))
-              (length (now (now (self .entry) .words))) (length (now (now (self .entry) .bursts))) «burst_limit» «pending_limit»
-          | Err e ↦ (number-of e ≡ 2) × (Buildable (length (now (now (self .entry) .bytes))) (length (now (now (self .entry) .waits))) (length (now (now (self .entry) .gaps)))
-              (length (now (now (self .entry) .words))) (length (now (now (self .entry) .bursts))) «burst_limit» «pending_limit» → ⊥)
+          | Ok _ ↦ Enough (now (self .entry)) «burst_limit» «pending_limit»
+          | Err e ↦ (number-of e ≡ 2) × (Enough (now (self .entry)) «burst_limit» «pending_limit» → ⊥)
         ] ⌝ }
     {
         let beats = burst_limit as usize;
@@ -82,22 +86,21 @@ impl<'a> Storage<'a> {
         Ok(())
     }
 
-    /// Reads every byte once: only of what was read it is known that it is a byte.
-    fn read_through(&self)
+    /// The memory's bytes are bytes.
+    fn look(&self)
         ensures { λ _. ⌜ ((address : ℕ) → byte-in (now (now (self .entry) .bytes)) address < 256) ⌝ }
     {
-        let _ = greatest(self.bytes);
+        look_at(self.bytes);
     }
 }
 
 impl<'a> Parts<'a> {
     /// The parts of a memory at reset.
     fn over<W: Width>(storage: Storage<'a>, burst_limit: u8, pending_limit: u8) -> Parts<'a>
-        requires { ⌜ Buildable (length (now (storage .bytes))) (length (now (storage .waits))) (length (now (storage .gaps)))
-            (length (now (storage .words))) (length (now (storage .bursts))) «burst_limit» «pending_limit» ⌝ }
+        requires { ⌜ Enough storage «burst_limit» «pending_limit» ⌝ }
         ensures { λ r. ⌜ Built (W·Width .wide) (now (storage .entry .bytes)) (now (storage .entry .waits)) (now (storage .entry .gaps)) «burst_limit» «pending_limit» r ⌝ }
     {
-        storage.read_through();
+        storage.look();
         let Storage {
             bytes,
             waits,
@@ -125,15 +128,10 @@ impl<'a, W: Width> ScriptedMemory<'a, W> {
         pending_limit: u8,
     ) -> Result<ScriptedMemory<'a, W>, (Refusal, Storage<'a>)>
         ensures { λ r. ⌜ elim r [
-          | Ok m ↦ Buildable (length (now (storage .entry .bytes))) (length (now (storage .entry .waits))) (length (now (storage .entry .gaps)))
-              (length (now (storage .entry .words))) (length (now (storage .entry .bursts))) «burst_limit» «pending_limit»
+          | Ok m ↦ Enough (storage .entry) «burst_limit» «pending_limit»
               × Whole (W·Width .wide) m
               × Built (W·Width .wide) (now (storage .entry .bytes)) (now (storage .entry .waits)) (now (storage .entry .gaps)) «burst_limit» «pending_limit» (m .parts)
-          | Err e ↦ (number-of (e .0) ≡ 2)
-              × (Buildable (length (now (storage .entry .bytes))) (length (now (storage .entry .waits))) (length (now (storage .entry .gaps)))
-              (length (now (storage .entry .words))) (length (now (storage .entry .bursts))) «burst_limit» «pending_limit» → ⊥)
-              × (now (e .1 .bytes) ≡ now (storage .entry .bytes)) × (now (e .1 .waits) ≡ now (storage .entry .waits)) × (now (e .1 .gaps) ≡ now (storage .entry .gaps))
-              × (now (e .1 .words) ≡ now (storage .entry .words)) × (now (e .1 .bursts) ≡ now (storage .entry .bursts))
+          | Err e ↦ (number-of (e .0) ≡ 2) × (Enough (storage .entry) «burst_limit» «pending_limit» → ⊥) × Unchanged (storage .entry) (e .1)
         ] ⌝ }
     {
         match storage.check(burst_limit, pending_limit) {

@@ -1,4 +1,5 @@
-//! The clock call of a scripted memory, and the memory as a port.
+//! The clock call of a scripted memory, and the memory as a port. A port's clock cannot promise the timing of one make
+//! in its own contract, so the memory has the same call as a method of its own, which does.
 ghost use mathlib.Core.Path.{_≡_};
 ghost use Rattle.agents.specs.Memory.{Sound, Timed, Whole, fixed-of, state-of};
 ghost use Rattle.port.specs.Machine.{Moves, refusal};
@@ -7,7 +8,6 @@ use crate::memory::Parts;
 use crate::memory::ScriptedMemory;
 use port::calls::Answer;
 use port::calls::Command;
-use port::calls::OpenBurst;
 use port::ports::Port;
 use port::record::PortRecord;
 use port::width::Width;
@@ -37,22 +37,9 @@ impl<'a> Parts<'a> {
         ensures timing { λ a. ⌜ Timed (now (self .entry)) command a (now (self .exit)) ⌝ }
     {
         match self.plain.refusal(command) {
-            Some(refusal) => Answer::Refused(refusal),
+            Some(reason) => Answer::Refused(reason),
             None => self.serve::<W>(command),
         }
-    }
-}
-
-impl<'a, W: Width> ScriptedMemory<'a, W> {
-    /// One clock call, with its timing: this is the clock of the port.
-    pub fn clock(&mut self, command: Command) -> Answer
-        requires { ⌜ Whole (W·Width .wide) (now self) ⌝ }
-        ensures sound { λ _. ⌜ Whole (W·Width .wide) (now (self .exit)) ⌝ }
-        ensures fixed { λ _. ⌜ fixed-of (now (self .exit) .parts) ≡ fixed-of (now (self .entry) .parts) ⌝ }
-        ensures moves { λ a. ⌜ Moves (fixed-of (now (self .entry) .parts)) (state-of (now (self .entry) .parts)) command a (state-of (now (self .exit) .parts)) ⌝ }
-        ensures timing { λ a. ⌜ Timed (now (self .entry) .parts) command a (now (self .exit) .parts) ⌝ }
-    {
-        self.parts.clock::<W>(command)
     }
 }
 
@@ -71,6 +58,8 @@ pub impl<'a, W: Width> Port for ScriptedMemory<'a, W> as ScriptedMemoryPort {
 
     ghost named = { λ m kept. kept .1 };
 
+    ghost timing = { λ was c a is. Timed (was .parts) c a (is .parts) };
+
     fn width() -> u8
         ensures { λ r. ⌜ r ≡ W·Width .wide ⌝ }
     {
@@ -83,41 +72,5 @@ pub impl<'a, W: Width> Port for ScriptedMemory<'a, W> as ScriptedMemoryPort {
 
     fn status(&self) -> PortRecord {
         self.parts.plain
-    }
-
-    fn words(&self) -> u32 {
-        self.parts.plain.numbers.words
-    }
-
-    fn burst_limit(&self) -> u8 {
-        self.parts.plain.numbers.burst_limit
-    }
-
-    fn pending_limit(&self) -> u8 {
-        self.parts.plain.numbers.pending_limit
-    }
-
-    fn wait_bound(&self) -> u32 {
-        self.parts.plain.numbers.wait_bound
-    }
-
-    fn silence_bound(&self) -> u32 {
-        self.parts.plain.numbers.silence_bound
-    }
-
-    fn open_burst(&self) -> Option<OpenBurst> {
-        self.parts.plain.burst
-    }
-
-    fn held(&self) -> Option<Command> {
-        self.parts.plain.held
-    }
-
-    fn bursts_owed(&self) -> u8 {
-        self.parts.plain.bursts_owed
-    }
-
-    fn words_owed(&self) -> u32 {
-        self.parts.plain.words_owed
     }
 }

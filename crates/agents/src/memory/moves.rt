@@ -1,4 +1,5 @@
-//! What a scripted memory does with a command that is taken.
+//! What a scripted memory does with a command that is taken: it owes the words of a read, as the bytes are then, and
+//! stores the beat of a write.
 ghost use Prim.Native.Nat.{_+_, _*_, _≤_, _<_};
 ghost use lib.ListN.{length};
 ghost use mathlib.Core.List.{[], _∷_, _++_};
@@ -40,7 +41,8 @@ fn owe_burst(bursts: &mut Ring<'_, ReadBurst>, left: u16)
 {
     match bursts.put(ReadBurst { left }) {
         Ok(()) => {}
-        Err(_) => {}
+        // there is room
+        Err(_) => unreachable(),
     }
 }
 
@@ -60,7 +62,8 @@ impl<'a> Parts<'a> {
     {
         match self.words.put(word) {
             Ok(()) => {}
-            Err(_) => {}
+            // there is room
+            Err(_) => unreachable(),
         }
     }
 

@@ -1,10 +1,11 @@
-//! When a scripted memory waits, and the word that it returns.
-ghost use Prim.Native.Nat.{ℕ, _+_, _<_};
+//! The timing of a scripted memory: how a command is answered, and whether a word comes back. Both go by the state and
+//! the scripts as they are at the start of a call.
+ghost use Prim.Native.Nat.{ℕ, _<_};
 ghost use lib.Dec.{leb};
 ghost use lib.ListN.{length};
 ghost use mathlib.Core.Path.{_≡_};
 ghost use Rattle.agents.specs.Memory.{Gave, Sound, fixed-of, lefts, state-of};
-ghost use Rattle.agents.specs.Queue.{Fit, items, room};
+ghost use Rattle.agents.specs.Queue.{Fit, room};
 ghost use Rattle.agents.specs.Scripts.{value-now};
 ghost use Rattle.agents.specs.Timing.{reply-to};
 ghost use Rattle.port.specs.Legal.{Came};

@@ -37,7 +37,7 @@ impl<'a, T: Copy> Ring<'a, T> {
     }
 
     /// How many items its storage takes.
-    pub fn room(&self) -> usize
+    pub(crate) fn room(&self) -> usize
         ensures { λ r. ⌜ r ≡ room (now (self .entry)) ⌝ }
     {
         self.slots.len()
@@ -97,7 +97,7 @@ impl<'a, T: Copy> Ring<'a, T> {
     }
 
     /// The first item, which stays.
-    pub fn first(&self) -> Option<T>
+    pub(crate) fn first(&self) -> Option<T>
         requires { ⌜ Fit (now self) ⌝ }
         ensures { λ r. ⌜ r ≡ first-of (items (now (self .entry))) ⌝ }
     {
@@ -109,7 +109,7 @@ impl<'a, T: Copy> Ring<'a, T> {
     }
 
     /// Another item in the place of the first; nothing where there is none.
-    pub fn replace_first(&mut self, item: T)
+    pub(crate) fn replace_first(&mut self, item: T)
         requires { ⌜ Fit (now self) ⌝ }
         ensures { λ _. ⌜ Replaced item (now (self .entry)) (now (self .exit)) ⌝ }
     {

@@ -35,7 +35,11 @@ use std::alloc::AllocError;
 use std::alloc::Global;
 
 /// Plays the commands of a session on a port.
-fn play_on<W: Width, P: Port>(port: &mut P, session: &Session<'_>, answers: &mut [Answer]) -> Result<Summary, Refusal>
+fn play_on<W: Width, P: Port>(
+    port: &mut P,
+    session: &Session<'_>,
+    answers: &mut [Answer],
+) -> Result<Summary, Refusal>
     requires { ⌜ P·Port .sound (now port) ⌝ ∗ ⌜ P·Port .wide ≡ W·Width .wide ⌝ }
     ensures { λ r. ⌜ elim r [
       | Ok end ↦ ((image : List ℕ) → P·Port .state (now (port .entry)) ≡ reset image → Plays (P·Port .fixed (now (port .entry))) image (now (now (session .entry) .commands .bytes)) (now (answers .exit)) end)
@@ -46,7 +50,11 @@ fn play_on<W: Width, P: Port>(port: &mut P, session: &Session<'_>, answers: &mut
     let top = port.status().numbers;
     play_all::<W, P>(port, session, answers)?;
     let taken = count_taken(&answers[0..session.command_count()]);
-    Ok(Summary { top, taken, owed: port.status().words_owed })
+    Ok(Summary {
+        top,
+        taken,
+        owed: port.status().words_owed,
+    })
 }
 
 /// Builds the pile of a session over storage, and plays its commands. (A `Storage` by value could not be handed on from here.)
@@ -65,13 +73,19 @@ fn play_pile<'x>(
           × (drop (count-of (now (now (session .entry) .commands .bytes))) (now (answers .exit)) ≡ drop (count-of (now (now (session .entry) .commands .bytes))) (now (answers .entry)))
       | Err e ↦ (now (answers .exit) ≡ now (answers .entry))
           × (((number-of e ≡ 2) × (Fitting pile (length (now (bytes .entry))) (length (now (waits .entry))) (length (now (gaps .entry))) (length (now (words .entry))) (length (now (bursts .entry))) → ⊥))
-            ⊎ ((number-of e ≡ 10) × (length (now (answers .entry)) < count-of (now (now (session .entry) .commands .bytes)))))
+          ⊎ ((number-of e ≡ 10) × (length (now (answers .entry)) < count-of (now (now (session .entry) .commands .bytes)))))
     ] ⌝ }
 {
     if pile.pile != 2 {
         return Err(Refusal::OutOfRange);
     }
-    let storage = Storage { bytes, waits, gaps, words, bursts };
+    let storage = Storage {
+        bytes,
+        waits,
+        gaps,
+        words,
+        bursts,
+    };
     match ScriptedMemory::<W4>::new(storage, pile.burst_limit, pile.pending_limit) {
         Ok(mut memory) => play_on::<W4, ScriptedMemory<'x, W4>>(&mut memory, session, answers),
         Err((refusal, _)) => Err(refusal),
@@ -82,7 +96,11 @@ fn play_pile<'x>(
 fn places_for(heap: Global, session: &Session<'_>) -> Result<Places, AllocError>
     ensures { λ r. ⌜ made r (Places-for (now (session .entry))) ⌝ }
 {
-    let PileFields { burst_limit, pending_limit, .. } = session.pile;
+    let PileFields {
+        burst_limit,
+        pending_limit,
+        ..
+    } = session.pile;
     let pending = pending_limit as usize;
     Ok(Places {
         bytes: session.memory.bytes.to_vec(heap)?,
@@ -97,10 +115,33 @@ fn play_session(heap: Global, session: &Session<'_>) -> Result<Played, AllocErro
     requires { ⌜ In-range (now session) ⌝ }
     ensures { λ r. ⌜ made r (Session-played (now (session .entry))) ⌝ }
 {
-    let Places { mut bytes, mut words, mut bursts, mut answers } = places_for(heap, session)?;
-    let Session { pile, waits, gaps, .. } = *session;
-    match play_pile(pile, &mut bytes, waits.bytes, gaps.bytes, &mut words, &mut bursts, session, &mut answers) {
-        Ok(summary) => Ok(Played { pile: pile.pile, answers, summary }),
+    let Places {
+        mut bytes,
+        mut words,
+        mut bursts,
+        mut answers,
+    } = places_for(heap, session)?;
+    let Session {
+        pile,
+        waits,
+        gaps,
+        ..
+    } = *session;
+    match play_pile(
+        pile,
+        &mut bytes,
+        waits.bytes,
+        gaps.bytes,
+        &mut words,
+        &mut bursts,
+        session,
+        &mut answers,
+    ) {
+        Ok(summary) => Ok(Played {
+            pile: pile.pile,
+            answers,
+            summary,
+        }),
         Err(_) => unreachable(),
     }
 }

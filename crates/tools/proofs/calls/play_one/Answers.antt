@@ -23,8 +23,10 @@ returns-then-reads-all-lanes g c =
     let wide : n .width ≡ w = g .P·Port .named p (c .pre .0) ∙ c .pre .1 in
     let told = host-told n σ (c .status-status .result) w f _ (c .status-status .ensures) (c .in-Ok .ensures tt .0) in
     record {
-      sound = c .clock .ensures .sound; fixed = c .clock .ensures .fixed;
-      plays = plays-put n σ f (c .in-Ok .command) (c .clock .result) (g .P·Port .state (c .clock .last .self)) w wide (told, c .in-Ok .ensures tt .1) (sym (c .if-reads-all-lanes .ensures tt)) (c .clock .ensures .moves) }
+      sound = c .clock .ensures .sound;
+      fixed = c .clock .ensures .fixed;
+      plays = plays-put n σ f (c .in-Ok .command) (c .clock .result) (g .P·Port .state (c .clock .last .self)) w wide (told, c .in-Ok .ensures tt .1) (sym (c .if-reads-all-lanes .ensures tt)) (c .clock .ensures .moves);
+    }
 
 pub returns-in-Some : need.returns-in-Some
 returns-in-Some g c =

@@ -8,6 +8,6 @@ use Rattle.tools.proofs.player.play_all.Given as given
 abbrev pub Inv-loop-i : given.InvT-loop-i
 Inv-loop-i g l =
     g .P·Port .sound (l .port)
-      × (g .P·Port .fixed (l .port) ≡ g .P·Port .fixed (l .entry .port))
-      × Session-ran (g .P·Port .fixed (l .entry .port)) (g .P·Port .state (l .entry .port)) (commands-in (now (l .session .commands .bytes)) (l .i)) (take (l .i) (l .answers)) (g .P·Port .state (l .port))
-      × (drop (l .i) (l .answers) ≡ drop (l .i) (l .entry .answers))
+    × (g .P·Port .fixed (l .port) ≡ g .P·Port .fixed (l .entry .port))
+    × Session-ran (g .P·Port .fixed (l .entry .port)) (g .P·Port .state (l .entry .port)) (commands-in (now (l .session .commands .bytes)) (l .i)) (take (l .i) (l .answers)) (g .P·Port .state (l .port))
+    × (drop (l .i) (l .answers) ≡ drop (l .i) (l .entry .answers))

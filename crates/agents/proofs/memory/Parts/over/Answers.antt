@@ -13,7 +13,7 @@ returns g c =
     (record {
       wide = g .W·Width·met .widths;
       may = c .pre;
-      bytes = c .read-through .ensures;
+      bytes = c .look .ensures;
       numbers = c .numbers-for-numbers .ensures .are;
       small = c .numbers-for-numbers .ensures .small;
       memory = refl;

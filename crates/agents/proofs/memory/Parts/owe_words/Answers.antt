@@ -1,15 +1,13 @@
-use Prim.Native.Nat.{ℕ, _+_, _*_, _≤_, _<_}
-use mathlib.Core.Path.{_≡_, refl, sym, ap, subst, _∙_}
+use Prim.Native.Nat.{_+_, _*_, _≤_}
+use mathlib.Core.Path.{_≡_, refl, sym, ap, _∙_}
 use mathlib.Core.List.{[], _∷_, _++_, append-assoc}
 use native.Mathlib.Nat.{add-mul, mul-le-mul-right}
 use native.Mathlib.Omega.{arith}
-use borrow.Author.Needs.{needs}
 use lib.ListN.{length}
 use Rattle.std.proofs.shelf.Lists.{append-nil, length-append}
 use Rattle.port.proofs.Bytes.{length-words-at}
 use Rattle.port.specs.Lanes.{byte-in, word-at, words-at}
 use Rattle.agents.proofs.Joined.{words-push}
-use Rattle.agents.specs.Memory.{Owed}
 use Rattle.agents.specs.Queue.{items}
 use Rattle.agents.proofs.memory.Parts.owe_words.Needs as need
 

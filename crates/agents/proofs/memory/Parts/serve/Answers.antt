@@ -1,4 +1,4 @@
-use mathlib.Core.Path.{_≡_, _∙_}
+use mathlib.Core.Path.{_∙_}
 use Rattle.agents.proofs.Served.{ready, few-bytes, waits-in-place, leaves}
 use Rattle.agents.specs.Memory.{fixed-of, state-of}
 use Rattle.agents.proofs.memory.Parts.serve.Needs as need

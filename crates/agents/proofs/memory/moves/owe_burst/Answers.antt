@@ -1,11 +1,11 @@
-use mathlib.Core.Path.{_≡_, ap, _∙_}
+use mathlib.Core.Path.{ap, _∙_}
 use mathlib.Core.List.{[], _∷_}
 use Rattle.std.proofs.shelf.Lists.{map-append}
 use Rattle.agents.specs.Queue.{items}
 use Rattle.agents.proofs.memory.moves.owe_burst.Needs as need
 
-pub returns-in-Ok : need.returns-in-Ok
-returns-in-Ok c =
+pub returns : need.returns
+returns c =
     let p = c .in-Ok .ensures tt in
     record {
       fits = p .3;

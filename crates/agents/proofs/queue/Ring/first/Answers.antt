@@ -1,12 +1,11 @@
-use Prim.Native.Nat.{ℕ, _+_, _-_, _<_}
+use Prim.Native.Nat.{ℕ, _+_, _-_}
 use mathlib.Core.Path.{_≡_, sym, subst, _∙_, ap}
 use mathlib.Core.List.{_∷_}
 use native.Mathlib.Omega.{arith}
-use borrow.Author.Needs.{needs}
-use lib.ListN.{getD, length}
+use lib.ListN.{getD}
 use Rattle.agents.specs.Items.{around, first-of}
 use Rattle.agents.proofs.queue.Ring.first.Needs as need
-use Rattle.agents.proofs.Around.{take-start, start-below, around-none}
+use Rattle.agents.proofs.Around.{take-start, around-none}
 
 pub returns-then-self-eq0 : need.returns-then-self-eq0
 returns-then-self-eq0 g c =

@@ -1,8 +1,8 @@
-use Prim.Native.Nat.{ℕ, _+_, _<_}
-use mathlib.Core.Path.{_≡_, refl, sym, subst, _∙_}
+use Prim.Native.Nat.{ℕ, _+_}
+use mathlib.Core.Path.{_≡_, refl, sym, subst}
 use mathlib.Core.List.{[], _∷_, _++_}
 use native.Mathlib.Omega.{arith}
-use lib.ListN.{set, length, length-set}
+use lib.ListN.{set, length-set}
 use Rattle.agents.specs.Items.{around}
 use Rattle.agents.proofs.queue.Ring.put.Needs as need
 use Rattle.agents.proofs.Around.{put-end, length-around}

@@ -1,11 +1,10 @@
-use Prim.Native.Nat.{ℕ, _+_, _-_}
+use Prim.Native.Nat.{ℕ, _-_}
 use mathlib.Core.Path.{_≡_, refl, sym, subst, _∙_, ap}
-use mathlib.Core.List.{_∷_}
 use native.Mathlib.Omega.{arith}
-use lib.ListN.{getD, set, length, length-set}
+use lib.ListN.{set, length-set}
 use Rattle.agents.specs.Items.{around, with-first}
 use Rattle.agents.proofs.queue.Ring.replace_first.Needs as need
-use Rattle.agents.proofs.Around.{set-start, start-below, around-none}
+use Rattle.agents.proofs.Around.{set-start, around-none}
 
 pub returns-then-self-gt0 : need.returns-then-self-gt0
 returns-then-self-gt0 g c =

@@ -20,4 +20,5 @@ returns c =
     record {
       pile = refl;
       plays = rw same law;
-      all = ap length same ∙ c .play-pile .kept .answers ∙ ap length (c .deref-mut-4 .ensures .value) ∙ places .answers }
+      all = ap length same ∙ c .play-pile .kept .answers ∙ ap length (c .deref-mut-4 .ensures .value) ∙ places .answers;
+    }
