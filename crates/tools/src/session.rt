@@ -72,7 +72,8 @@ impl<'a> Session<'a> {
           | None ↦ length (now (now (self .entry) .commands .bytes)) / 16 ≤ index
         ] ⌝ }
     {
-        if index >= self.commands.bytes.len() / 16 {
+        let size = self.commands.bytes.len();
+        if index >= size / 16 {
             return None;
         }
         let stretch = self.commands.part(16 * index, 16)?;

@@ -33,14 +33,8 @@ impl<'a, T: Copy> Ring<'a, T> {
         requires { ⌜ Fit (now self) ⌝ }
         ensures { λ r. ⌜ r ≡ length (items (now (self .entry))) ⌝ }
     {
-        self.count
-    }
-
-    /// How many items its storage takes.
-    pub(crate) fn room(&self) -> usize
-        ensures { λ r. ⌜ r ≡ room (now (self .entry)) ⌝ }
-    {
-        self.slots.len()
+        let Ring { count, .. } = self;
+        *count
     }
 
     /// Where the first item stands.
