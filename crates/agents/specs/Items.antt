@@ -19,9 +19,9 @@ start-of size from = cond (ltb from size) from 0
 abbrev pub end-of : ℕ → ℕ → ℕ → ℕ
 end-of size from n = cond (ltb n (size - from)) (from + n) (n - (size - from))
 
-abbrev pub first-of : {X : Type 0} → List X → Option X
-first-of [] = None
-first-of (x ∷ later) = Some x
+abbrev pub first-item : {X : Type 0} → List X → Option X
+first-item [] = None
+first-item (x ∷ later) = Some x
 
 -- a list with another first item
 abbrev pub with-first : {X : Type 0} → X → List X → List X

@@ -190,7 +190,7 @@ legal-acted n σ (Write o k m d) reply.Idle legal free answers within = absurd a
 legal-acted n σ (Write o k m d) reply.Wait legal free answers within = held-back n σ (Write o k m d) (λ e. let z : _≡_ {A = ℕ} 0 1 = cc in omega arith) legal free within
 legal-acted n σ (Write o k m d) reply.Take legal free answers within = write-taken n σ o k m d legal free within
 
-silence-acted : (w : ℕ) (c : Command) (a : Reply) (σ : State) → acted w c a σ .silence ≡ σ .silence
+pub silence-acted : (w : ℕ) (c : Command) (a : Reply) (σ : State) → acted w c a σ .silence ≡ σ .silence
 silence-acted w Idle reply.Idle σ = refl
 silence-acted w Idle reply.Wait σ = refl
 silence-acted w Idle reply.Take σ = refl

@@ -30,7 +30,7 @@ use Rattle.port.specs.declared.numbers.Numbers.{Numbers}
 use Rattle.std.specs.declared.option.Option.{Option}
 use Rattle.std.specs.declared.option.Option.the-variants.{Some, None}
 use Rattle.port.proofs.Bytes.{length-lanes-stored, stored-inside, stored-outside, words-agree}
-use Rattle.port.proofs.Kept.{read-fits}
+use Rattle.port.proofs.Kept.{read-fits, silence-acted}
 use Rattle.port.proofs.Rules.{first-later}
 use Rattle.port.proofs.Tally.{wide-some}
 
@@ -78,14 +78,6 @@ byte-refused : (w : ℕ) (c : Command) (b : Option OpenBurst) (image : List ℕ)
 byte-refused w Idle b image older a = refl
 byte-refused w (Read o k) b image older a = refl
 byte-refused w (Write o k m d) b image older a = refl
-
-byte-given : (x : Option ℕ) (σ : State) → given x σ .memory ≡ σ .memory
-byte-given None σ = refl
-byte-given (Some x) σ = refl
-
-burst-given : (x : Option ℕ) (σ : State) → given x σ .burst ≡ σ .burst
-burst-given None σ = refl
-burst-given (Some x) σ = refl
 
 byte-fed : (w : ℕ) (c : Command) (b : Answer) (σ : State) (image : List ℕ) (older : List Beat) (a : ℕ) → 1 ≤ w → a < length (σ .memory) →
     byte-in (σ .memory) a ≡ byte-from w image older a → byte-in (fed w σ c b .memory) a ≡ byte-from w image (beat-of (σ .burst) c (taken b) ++ older) a
@@ -222,17 +214,6 @@ waits-book w image (e ∷ es) older none =
     let rest = waits-book w image es older (none .1) in
     let step = waits-fed w (e .call) (e .answer) (book w image (es ++ older)) (none .0) in
     omega arith
-
-silence-acted : (w : ℕ) (c : Command) (b : Reply) (σ : State) → acted w c b σ .silence ≡ σ .silence
-silence-acted w Idle reply.Idle σ = refl
-silence-acted w Idle reply.Wait σ = refl
-silence-acted w Idle reply.Take σ = refl
-silence-acted w (Read o k) reply.Idle σ = refl
-silence-acted w (Read o k) reply.Wait σ = refl
-silence-acted w (Read o k) reply.Take σ = refl
-silence-acted w (Write o k m d) reply.Idle σ = refl
-silence-acted w (Write o k m d) reply.Wait σ = refl
-silence-acted w (Write o k m d) reply.Take σ = refl
 
 silence-more : (owed : List ℕ) (s : ℕ) → 0 < length owed → silence-after owed s ≡ 1 + s
 silence-more [] s some = absurd (omega arith)

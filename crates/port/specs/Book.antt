@@ -13,11 +13,7 @@ pub record Event : Type 0 where
   pub call : Command
   pub answer : Answer
 
--- calls with their answers, the newest first
-abbrev pub History : Type 0
-History = List Event
-
--- a history after a list of calls got these answers
+-- A history is a list of events, the newest first. This is a history after a list of calls got these answers
 abbrev pub after-calls : List Command → List Answer → List Event → List Event
 after-calls [] bs h = h
 after-calls (c ∷ cs) [] h = h

@@ -3,7 +3,7 @@ ghost use Prim.Native.Nat.{_<_};
 ghost use lib.ListN.{length, getD};
 ghost use mathlib.Core.List.{[]};
 ghost use mathlib.Core.Path.{_≡_};
-ghost use Rattle.agents.specs.Items.{first-of, start-of, end-of};
+ghost use Rattle.agents.specs.Items.{first-item, start-of, end-of};
 ghost use Rattle.agents.specs.Queue.{items, room, Fit, Put, Taken, Replaced};
 use crate::queue::Ring;
 use port::calls::Refusal;
@@ -93,7 +93,7 @@ impl<'a, T: Copy> Ring<'a, T> {
     /// The first item, which stays.
     pub(crate) fn first(&self) -> Option<T>
         requires { ⌜ Fit (now self) ⌝ }
-        ensures { λ r. ⌜ r ≡ first-of (items (now (self .entry))) ⌝ }
+        ensures { λ r. ⌜ r ≡ first-item (items (now (self .entry))) ⌝ }
     {
         if self.count == 0 {
             return None;

@@ -3,7 +3,7 @@ use mathlib.Core.Path.{_≡_, sym, subst, _∙_, ap}
 use mathlib.Core.List.{_∷_}
 use native.Mathlib.Omega.{arith}
 use lib.ListN.{getD}
-use Rattle.agents.specs.Items.{around, first-of}
+use Rattle.agents.specs.Items.{around, first-item}
 use Rattle.agents.proofs.queue.Ring.first.Needs as need
 use Rattle.agents.proofs.Around.{take-start, around-none}
 
@@ -11,7 +11,7 @@ pub returns-then-self-eq0 : need.returns-then-self-eq0
 returns-then-self-eq0 g c =
     let r = c .args .self .now in
     let s = r .slots .now in
-    sym (ap first-of (ap (λ n. around s (r .head) n) (c .if-self-eq0 .taken) ∙ around-none s (r .head)))
+    sym (ap first-item (ap (λ n. around s (r .head) n) (c .if-self-eq0 .taken) ∙ around-none s (r .head)))
 
 pub returns : need.returns
 returns g c =
@@ -21,5 +21,5 @@ returns g c =
     let P : ℕ → Type 0 = λ p. around s (r .head) (r .count) ≡ getD s p d ∷ around s (p + 1) (r .count - 1) in
     let e = subst P (sym (c .start-place .ensures)) (take-start s (r .head) (r .count) d (c .pre .1) (omega arith) (c .pre .0)) in
     let o = c .item-at .ensures in
-    let f = ap first-of e in
+    let f = ap first-item e in
     cc
