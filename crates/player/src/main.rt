@@ -1,11 +1,11 @@
 //! The player: reads a session from standard input and prints what its pile answered, call by call.
+use files::faults::FaultDisplay;
 use std::io;
 use std::io::Read;
 use tools::lines::CallLine;
 use tools::lines::CallLineDisplay;
 use tools::lines::EndLine;
 use tools::lines::EndLineDisplay;
-use tools::lines::FaultDisplay;
 use tools::lines::HeadLine;
 use tools::lines::HeadLineDisplay;
 use tools::piles::Played;

@@ -1,12 +1,12 @@
 //! Session files: a good one, and the first faults of bad ones.
+use files::faults::Fault;
+use files::faults::FaultDebug;
+use files::faults::FaultPartialEq;
+use files::faults::FileFault;
+use files::records::SessionRecord;
+use files::records::command_fields;
+use files::session::read_session;
 use std::test::*;
-use tools::faults::Fault;
-use tools::faults::FaultDebug;
-use tools::faults::FaultPartialEq;
-use tools::faults::FileFault;
-use tools::records::SessionRecord;
-use tools::records::command_fields;
-use tools::session::read_session;
 
 // A file with three commands: the sections begin at 0, 5, 7, 11, 14 and 24, and the commands at 26, 42 and 58.
 const GOOD: [u8; 74] =

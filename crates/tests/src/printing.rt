@@ -1,15 +1,15 @@
 //! The lines that the player prints.
+use files::faults::Fault;
+use files::faults::FaultDisplay;
+use files::faults::FileFault;
 use port::calls::Answer;
 use port::calls::Refusal;
 use port::calls::Reply;
 use std::test::*;
-use tools::faults::Fault;
-use tools::faults::FileFault;
 use tools::lines::CallLine;
 use tools::lines::CallLineDisplay;
 use tools::lines::EndLine;
 use tools::lines::EndLineDisplay;
-use tools::lines::FaultDisplay;
 
 #[test]
 fn lines(rt: LibcRuntime) -> Result<(), Fail> {

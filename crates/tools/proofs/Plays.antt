@@ -23,7 +23,7 @@ use Rattle.std.specs.declared.option.Option.{Option}
 use Rattle.std.specs.declared.option.Option.the-variants.{Some, None}
 use Rattle.std.specs.declared.result.Result.the-variants.{Ok, Err}
 use Rattle.tools.specs.Calls.{Converted, Placed, Played, aligned, all-lanes, command-in, host-rule, mask-rule, offset-in, opens, session-refusal}
-use Rattle.tools.specs.declared.records.CommandFields.{CommandFields}
+use Rattle.files.specs.declared.records.CommandFields.{CommandFields}
 
 placed : (w : ℕ) (b : Option OpenBurst) (f : CommandFields) → (b ≡ None → aligned w (f .address) ≡ true) → (opens b f && not (aligned w (f .address))) ≡ false
 placed w None f even = and-right (opens None f) (not (aligned w (f .address))) (ap not (even refl))

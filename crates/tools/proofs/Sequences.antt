@@ -19,11 +19,11 @@ use Rattle.port.specs.declared.numbers.Numbers.{Numbers}
 use Rattle.port.proofs.Laws.{served-more}
 use Rattle.std.specs.declared.option.Option.{Option}
 use Rattle.std.specs.declared.option.Option.the-variants.{Some, None}
-use Rattle.tools.specs.Bytes.{bytes-at}
+use Rattle.files.specs.Bytes.{bytes-at}
 use Rattle.tools.specs.Calls.{Played, command-in}
-use Rattle.tools.specs.Fields.{command-record, commandIn}
+use Rattle.files.specs.Fields.{command-record, commandIn}
 use Rattle.tools.specs.Plays.{All-rightly, Rightly, Session-ran, after-command, after-commands, commands-in, takes-in}
-use Rattle.tools.specs.declared.records.CommandFields.{CommandFields}
+use Rattle.files.specs.declared.records.CommandFields.{CommandFields}
 
 length-commands : (xs : List ℕ) (n : ℕ) → length (commands-in xs n) ≡ n
 length-commands xs zero = refl

@@ -18,7 +18,7 @@ use Rattle.std.specs.declared.option.Option.{Option}
 use Rattle.std.specs.declared.option.Option.the-variants.{Some, None}
 use Rattle.std.specs.declared.result.Result.{Result}
 use Rattle.std.specs.declared.result.Result.the-variants.{Ok, Err}
-use Rattle.tools.specs.declared.records.CommandFields.{CommandFields}
+use Rattle.files.specs.declared.records.CommandFields.{CommandFields}
 
 -- an address is a multiple of the width
 abbrev pub aligned : ℕ → ℕ → Bool

@@ -1,10 +1,3 @@
-pub mod Bytes
 pub mod Calls
-pub mod Faults
-pub mod Fields
-pub mod Forms
-pub mod Parts
 pub mod Piles
 pub mod Plays
-pub mod Sections
-pub mod Sessions

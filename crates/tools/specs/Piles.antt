@@ -12,16 +12,16 @@ use Rattle.port.specs.declared.numbers.Numbers.{Numbers}
 use Rattle.std.specs.Of.Vec.{vec-items}
 use Rattle.std.specs.declared.result.Result.{Result}
 use Rattle.std.specs.declared.result.Result.the-variants.{Ok, Err}
-use Rattle.tools.specs.Forms.{Contents, Well-formed}
-use Rattle.tools.specs.Sessions.{Rejected}
+use Rattle.files.specs.Forms.{Contents, Well-formed}
+use Rattle.files.specs.Sessions.{Rejected}
 use Rattle.tools.specs.Plays.{All-rightly, after-commands, commands-in, takes-in}
 use Rattle.tools.specs.declared.piles.Places.{Places}
 use Rattle.tools.specs.declared.piles.Played.{Played}
 use Rattle.tools.specs.declared.piles.Stop.{Stop}
 use Rattle.tools.specs.declared.piles.Stop.the-variants as stop
 use Rattle.tools.specs.declared.piles.Summary.{Summary}
-use Rattle.tools.specs.declared.records.PileFields.{PileFields}
-use Rattle.tools.specs.declared.session.Session.{Session}
+use Rattle.files.specs.declared.records.PileFields.{PileFields}
+use Rattle.files.specs.declared.session.Session.{Session}
 
 -- how many commands stand in the bytes of a section of commands
 abbrev pub count-of : List ℕ → ℕ

@@ -11,10 +11,10 @@ use Rattle.port.specs.declared.calls.Answer.{Answer}
 use Rattle.port.specs.declared.calls.Answer.the-variants.{Refused, Clocked}
 use Rattle.port.specs.declared.numbers.Numbers.{Numbers}
 use Rattle.std.specs.declared.option.Option.the-variants.{Some, None}
-use Rattle.tools.specs.Bytes.{bytes-at}
+use Rattle.files.specs.Bytes.{bytes-at}
 use Rattle.tools.specs.Calls.{command-in, session-refusal}
-use Rattle.tools.specs.Fields.{command-record}
-use Rattle.tools.specs.declared.records.CommandFields.{CommandFields}
+use Rattle.files.specs.Fields.{command-record}
+use Rattle.files.specs.declared.records.CommandFields.{CommandFields}
 
 -- the first n commands of a section of commands
 abbrev pub commands-in : List ℕ → ℕ → List CommandFields

@@ -5,7 +5,7 @@ ghost use Rattle.port.specs.Refusals.{number-of};
 ghost use Rattle.std.specs.declared.option.Option.the-variants.{None, Some};
 ghost use Rattle.std.specs.declared.result.Result.the-variants.{Err, Ok};
 ghost use Rattle.tools.specs.Calls.{Converted, Placed, Played, all-lanes, host-rule};
-use crate::records::CommandFields;
+use files::records::CommandFields;
 use port::addresses::ByteAddress;
 use port::addresses::WordOffset;
 use port::calls::Answer;
@@ -27,39 +27,37 @@ fn offset_of<W: Width>(burst: Option<OpenBurst>, address: u32) -> Result<WordOff
     }
 }
 
-impl CommandFields {
-    /// The command that the record carries, for a port with this write burst open.
-    fn command<W: Width>(self, burst: Option<OpenBurst>) -> Result<Command, Refusal>
-        ensures { λ r. ⌜ Converted (W·Width .wide) burst self r ⌝ }
-    {
-        match self.flags {
-            0 => Ok(Command::Idle),
-            1 => {
-                let offset = offset_of::<W>(burst, self.address)?;
-                Ok(Command::Read {
-                    offset,
-                    count: self.count,
-                })
-            }
-            2 => {
-                let offset = offset_of::<W>(burst, self.address)?;
-                Ok(Command::Write {
-                    offset,
-                    count: self.count,
-                    mask: self.mask,
-                    word: self.bits,
-                })
-            }
-            _ => Err(Refusal::ReadAndWrite),
+/// The command that a record carries, for a port with this write burst open.
+fn command_of<W: Width>(fields: CommandFields, burst: Option<OpenBurst>) -> Result<Command, Refusal>
+    ensures { λ r. ⌜ Converted (W·Width .wide) burst fields r ⌝ }
+{
+    match fields.flags {
+        0 => Ok(Command::Idle),
+        1 => {
+            let offset = offset_of::<W>(burst, fields.address)?;
+            Ok(Command::Read {
+                offset,
+                count: fields.count,
+            })
         }
+        2 => {
+            let offset = offset_of::<W>(burst, fields.address)?;
+            Ok(Command::Write {
+                offset,
+                count: fields.count,
+                mask: fields.mask,
+                word: fields.bits,
+            })
+        }
+        _ => Err(Refusal::ReadAndWrite),
     }
+}
 
-    /// Whether the record is no read, or a read of all lanes.
-    fn reads_all_lanes<W: Width>(self) -> bool
-        ensures { λ r. ⌜ r ≡ all-lanes (W·Width .wide) self ⌝ }
-    {
-        self.flags != 1 || self.mask as u16 == (1 << W::width()) - 1
-    }
+/// Whether a record is no read, or a read of all lanes.
+fn reads_all_lanes<W: Width>(fields: CommandFields) -> bool
+    ensures { λ r. ⌜ r ≡ all-lanes (W·Width .wide) fields ⌝ }
+{
+    fields.flags != 1 || fields.mask as u16 == (1 << W::width()) - 1
 }
 
 /// Puts a command of a session to a port. A read that does not name all lanes is not put to it.
@@ -70,11 +68,11 @@ pub(crate) fn play_one<W: Width, P: Port>(port: &mut P, fields: CommandFields) -
     ensures plays { λ a. ⌜ Played (P·Port .fixed (now (port .entry))) (P·Port .state (now (port .entry))) fields a (P·Port .state (now (port .exit))) ⌝ }
 {
     let status = port.status();
-    let command = match fields.command::<W>(status.burst) {
+    let command = match command_of::<W>(fields, status.burst) {
         Ok(command) => command,
         Err(refusal) => return Answer::Refused(refusal),
     };
-    if fields.reads_all_lanes::<W>() {
+    if reads_all_lanes::<W>(fields) {
         return port.clock(command);
     }
     match status.refusal(command) {

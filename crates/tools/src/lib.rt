@@ -1,11 +1,5 @@
-//! Session files and the player: reads a session, builds its pile, and plays its commands on it.
-//! The reader copies nothing; whatever it hands out borrows the caller's bytes.
-pub mod calls;
-pub mod faults;
+//! The player as a library: the commands of a session as they are put to a port, the piles, and the lines it prints.
+mod calls;
 pub mod lines;
 pub mod piles;
-pub mod player;
-pub mod reader;
-pub mod records;
-pub mod section;
-pub mod session;
+mod player;

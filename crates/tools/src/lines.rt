@@ -1,5 +1,4 @@
 //! The lines that the player prints. What is printed is tested, and not proved.
-use crate::faults::Fault;
 use port::calls::Answer;
 use port::calls::Reply;
 use port::numbers::Numbers;
@@ -79,22 +78,5 @@ pub impl fmt::Display for EndLine as EndLineDisplay {
         let taken = self.taken;
         let owed = self.owed;
         write!(f, "end taken {taken} owed {owed}")
-    }
-}
-
-/// The only line of a file that is refused.
-pub impl fmt::Display for Fault as FaultDisplay {
-    fn fmt<W: fmt::Write>(&self, f: &mut fmt::Formatter<W>) -> fmt::Result {
-        let number = self.kind as u8;
-        let Fault {
-            section,
-            record,
-            byte,
-            ..
-        } = *self;
-        write!(
-            f,
-            "fault {number} section {section} record {record} byte {byte}"
-        )
     }
 }

@@ -1,8 +1,8 @@
 //! The piles of a session: what the player builds, and the commands played on it.
 ghost use mathlib.Core.Path.{_≡_};
 ghost use Rattle.tools.specs.declared.piles.Stop.the-variants.{NoMemory};
-use crate::faults::Fault;
 use agents::memory::ReadBurst;
+use files::faults::Fault;
 use port::calls::Answer;
 use port::numbers::Numbers;
 use std::alloc::AllocError;

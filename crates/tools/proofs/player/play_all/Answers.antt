@@ -6,12 +6,12 @@ use lib.ListN.{drop, length}
 use Rattle.std.proofs.shelf.Lists.{drop-drop, drop-set-lt}
 use Rattle.port.specs.Legal.{Legal}
 use Rattle.port.specs.declared.numbers.Numbers.{Numbers}
-use Rattle.tools.specs.Bytes.{bytes-at}
+use Rattle.files.specs.Bytes.{bytes-at}
 use Rattle.tools.specs.Calls.{Played}
-use Rattle.tools.specs.Fields.{command-record}
+use Rattle.files.specs.Fields.{command-record}
 use Rattle.tools.specs.Plays.{Session-ran, commands-in}
-use Rattle.tools.specs.declared.records.CommandFields.{CommandFields}
-use Rattle.tools.specs.declared.records.Stretch.{Stretch}
+use Rattle.files.specs.declared.records.CommandFields.{CommandFields}
+use Rattle.files.specs.declared.records.Stretch.{Stretch}
 use Rattle.tools.proofs.Sequences.{all-ran, fields-are, more-ran}
 use Rattle.tools.proofs.player.play_all.Needs as need
 

@@ -1,0 +1,4 @@
+mod Grammar
+mod Ranges
+mod Trails
+mod Walks
