@@ -21,7 +21,7 @@ use Rattle.port.proofs.Rules.{first-later, first-sooner, opening-fits}
 use Rattle.port.proofs.Tally.{words-below}
 use Rattle.port.specs.Lanes.{byte-in, stored, words-at}
 use Rattle.port.specs.Legal.{Legal, Open-within, tally}
-use Rattle.port.specs.Machine.{Clocks, Answers, First, acted, beat-offset, command-rule, given, hold-rule, lanes-rule, next, opening-rule, refusal}
+use Rattle.port.specs.Machine.{Clocks, Answers, First, acted, beat-offset, command-rule, given, hold-rule, lanes-rule, moved, opening-rule, refusal-in}
 use Rattle.port.specs.State.{State, Within}
 use Rattle.port.specs.declared.addresses.WordOffset.{WordOffset}
 use Rattle.port.specs.declared.calls.Answer.the-variants.{Clocked}
@@ -96,9 +96,9 @@ easy m x sound e =
 first : (m : Parts) (x : Option ℕ) → x ≡ word-back (state-of m) (value-now (m .gaps)) → First x (state-of m .owed)
 first m x e = subst (λ y. First y (state-of m .owed)) (sym e) (due-first (state-of m) (value-now (m .gaps)))
 
-clocked : (m : Parts) (c : Command) (a : Reply) (x : Option ℕ) → Sound m → refusal (fixed-of m) (state-of m) c ≡ None →
+clocked : (m : Parts) (c : Command) (a : Reply) (x : Option ℕ) → Sound m → refusal-in (fixed-of m) (state-of m) c ≡ None →
     a ≡ reply-to (fixed-of m) (state-of m) (value-now (m .waits)) c → x ≡ word-back (state-of m) (value-now (m .gaps)) →
-    Clocks (fixed-of m) (state-of m) c a x (next (fixed-of m .width) (state-of m) c a x)
+    Clocks (fixed-of m) (state-of m) c a x (moved (fixed-of m .width) (state-of m) c a x)
 clocked m c a x sound free replies returns =
     let n = fixed-of m in
     let σ = state-of m in
@@ -143,7 +143,7 @@ burst-after-word m0 m1 x gave = ap (λ p. p .burst) (gave .alike .plain) ∙ sym
 pub few-bytes : (m0 m1 : Parts) (x : Option ℕ) → Sound m0 → Gave m0 x m1 → length (state-of m1 .memory) ≤ 32768
 few-bytes m0 m1 x sound gave = omega (arith, ap length (gave .memory), sound .legal .size, sound .legal .ranges .few)
 
-read-ready : (m0 m1 : Parts) (o : WordOffset) (k : ℕ) (x : Option ℕ) → Sound m0 → refusal (fixed-of m0) (state-of m0) (Read o k) ≡ None → Gave m0 x m1 →
+read-ready : (m0 m1 : Parts) (o : WordOffset) (k : ℕ) (x : Option ℕ) → Sound m0 → refusal-in (fixed-of m0) (state-of m0) (Read o k) ≡ None → Gave m0 x m1 →
     length (state-of m0 .reads) < fixed-of m0 .«pending_limit» → Ready (fixed-of m0 .width) m1 (Read o k) reply.Take
 read-ready m0 m1 o k x sound free gave few =
     let n = fixed-of m0 in
@@ -161,7 +161,7 @@ read-ready m0 m1 o k x sound free gave few =
       omega (arith, up, size),
     )
 
-write-ready : (m0 m1 : Parts) (o : WordOffset) (k m d : ℕ) (x : Option ℕ) → Sound m0 → refusal (fixed-of m0) (state-of m0) (Write o k m d) ≡ None → Gave m0 x m1 →
+write-ready : (m0 m1 : Parts) (o : WordOffset) (k m d : ℕ) (x : Option ℕ) → Sound m0 → refusal-in (fixed-of m0) (state-of m0) (Write o k m d) ≡ None → Gave m0 x m1 →
     Ready (fixed-of m0 .width) m1 (Write o k m d) reply.Take
 write-ready m0 m1 o k m d x sound free gave =
     let n = fixed-of m0 in
@@ -174,7 +174,7 @@ write-ready m0 m1 o k m d x sound free gave =
     let size = ap length (gave .memory) ∙ sound .legal .size in
     omega (arith, same, up, split, size)
 
-ready-by : (m0 m1 : Parts) (c : Command) (x : Option ℕ) → Sound m0 → refusal (fixed-of m0) (state-of m0) c ≡ None → Gave m0 x m1 →
+ready-by : (m0 m1 : Parts) (c : Command) (x : Option ℕ) → Sound m0 → refusal-in (fixed-of m0) (state-of m0) c ≡ None → Gave m0 x m1 →
     Ready (fixed-of m0 .width) m1 c (reply-to (fixed-of m0) (state-of m0) (value-now (m0 .waits)) c)
 ready-by m0 m1 Idle x sound free gave = tt
 ready-by m0 m1 (Read o k) x sound free gave =
@@ -188,7 +188,7 @@ ready-by m0 m1 (Write o k m d) x sound free gave =
     (λ e. tt)
     (λ e. write-ready m0 m1 o k m d x sound free gave)
 
-pub ready : (w : ℕ) (m0 m1 : Parts) (c : Command) (a : Reply) (x : Option ℕ) → Sound m0 → fixed-of m0 .width ≡ w → refusal (fixed-of m0) (state-of m0) c ≡ None →
+pub ready : (w : ℕ) (m0 m1 : Parts) (c : Command) (a : Reply) (x : Option ℕ) → Sound m0 → fixed-of m0 .width ≡ w → refusal-in (fixed-of m0) (state-of m0) c ≡ None →
     a ≡ reply-to (fixed-of m0) (state-of m0) (value-now (m0 .waits)) c → Gave m0 x m1 → Ready w m1 c a
 ready w m0 m1 c a x sound wide free replies gave =
     subst (λ k. Ready k m1 c a) wide (subst (Ready (fixed-of m0 .width) m1 c) (sym replies) (ready-by m0 m1 c x sound free gave))
@@ -206,14 +206,14 @@ with-plain m p = record { bytes = m .bytes; waits = m .waits; gaps = m .gaps; wo
 pub record Steps (w : ℕ) (m0 m1 m2 : Parts) (c : Command) (a : Reply) (x : Option ℕ) : Type 0 where
   pub sound : Sound m0
   pub wide : fixed-of m0 .width ≡ w
-  pub free : refusal (fixed-of m0) (state-of m0) c ≡ None
+  pub free : refusal-in (fixed-of m0) (state-of m0) c ≡ None
   pub replies : a ≡ reply-to (fixed-of m0) (state-of m0) (value-now (m0 .waits)) c
   pub gave : Gave m0 x m1
   pub acts : Acted w m1 c a m2
 
 -- the state that the call leads to
 abbrev after-of : Parts → Command → Reply → Option ℕ → State
-after-of m c a x = next (fixed-of m .width) (state-of m) c a x
+after-of m c a x = moved (fixed-of m .width) (state-of m) c a x
 
 abbrev the-state : State → List ℕ → List ℕ → List ℕ → State
 the-state τ memory owed reads = record { memory = memory; burst = τ .burst; held = τ .held; owed = owed; reads = reads; waits = τ .waits; silence = τ .silence }

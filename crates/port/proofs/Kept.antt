@@ -11,7 +11,7 @@ use Rattle.std.proofs.shelf.Lists.{getD-drop, length-append, length-drop}
 use Rattle.std.proofs.shelf.Tests.{cond-both, ltb-false, ltb-true}
 use Rattle.port.specs.Lanes.{byte-in, words-at}
 use Rattle.port.specs.Legal.{Held-legal, Legal, Open-within, Reads-within, total}
-use Rattle.port.specs.Machine.{Answers, Clocks, First, acted, beat-offset, burst-after, command-rule, first-of, given, hold-rule, lanes-rule, next, one-came, opening-rule, read-words, refusal, refusal-by, rest-of-burst, silence-after}
+use Rattle.port.specs.Machine.{Answers, Clocks, First, acted, beat-offset, burst-after, command-rule, first-of, given, hold-rule, lanes-rule, moved, one-came, opening-rule, read-words, refusal-in, refusal-by, rest-of-burst, silence-after}
 use Rattle.port.specs.State.{State, Within}
 use Rattle.port.specs.declared.addresses.WordOffset.{WordOffset}
 use Rattle.port.specs.declared.calls.Command.{Command}
@@ -207,7 +207,7 @@ burst-given (Some x) σ = refl
 
 pub moves-legal : (n : Numbers) (σ : State) (c : Command) (a : Reply) (x : Option ℕ) (τ : State) → Legal n σ → Clocks n σ c a x τ → Legal n τ
 moves-legal n σ c a x τ legal clocks =
-    let within : Within n (next (n .width) σ c a x) = subst (Within n) (clocks .moves) (clocks .within) in
+    let within : Within n (moved (n .width) σ c a x) = subst (Within n) (clocks .moves) (clocks .within) in
     let quiet : given x σ .silence ≤ n .«silence_bound» = omega (arith, within .silent, silence-acted (n .width) c a (given x σ)) in
     let half = legal-given n σ x legal (clocks .first) quiet in
     let free : command-rule n (given x σ .burst) c ≡ None =

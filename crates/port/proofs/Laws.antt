@@ -14,9 +14,9 @@ use Rattle.std.proofs.shelf.Tests.{cases-eq, cases-lt, cond-both, eq-eqb, ne-eq
 use Rattle.port.specs.Book.{Event, after-calls, book, fed}
 use Rattle.port.specs.Lanes.{byte-in, enabled, lane, lanes-stored, stored, words-at}
 use Rattle.port.specs.Legal.{Legal}
-use Rattle.port.specs.Machine.{Answers, Clocks, First, Moves, acted, beat-offset, burst-after, command-rule, given, hold-rule, next, refusal, silence-after}
+use Rattle.port.specs.Machine.{Answers, Clocks, First, Moves, acted, beat-offset, burst-after, command-rule, given, hold-rule, moved, refusal-in, silence-after}
 use Rattle.port.specs.Refusals.{number-of}
-use Rattle.port.specs.Runs.{Beat, Brings-none, Judged, Lawful, Ran, Served, Silent, Untaken, asked, beat-of, beats, byte-from, clock-in, clocked-in, covers, left-open, open-after, requested, returned, taken, takes, wait-in, waits-in, word-in}
+use Rattle.port.specs.Runs.{Beat, Brings-none, Judged, Lawful, Ran, Served, Silent, Untaken, asked, beat-of, beats-taken, byte-from, clock-in, clocked-in, covers, left-open, open-after, words-requested, words-returned, was-taken, takes, wait-in, waits-in, word-in}
 use Rattle.port.specs.State.{State, Within, reset}
 use Rattle.port.specs.declared.addresses.WordOffset.{WordOffset}
 use Rattle.port.specs.declared.calls.Answer.{Answer}
@@ -80,7 +80,7 @@ byte-refused w (Read o k) b image older a = refl
 byte-refused w (Write o k m d) b image older a = refl
 
 byte-fed : (w : ℕ) (c : Command) (b : Answer) (σ : State) (image : List ℕ) (older : List Beat) (a : ℕ) → 1 ≤ w → a < length (σ .memory) →
-    byte-in (σ .memory) a ≡ byte-from w image older a → byte-in (fed w σ c b .memory) a ≡ byte-from w image (beat-of (σ .burst) c (taken b) ++ older) a
+    byte-in (σ .memory) a ≡ byte-from w image older a → byte-in (fed w σ c b .memory) a ≡ byte-from w image (beat-of (σ .burst) c (was-taken b) ++ older) a
 byte-fed w c (Refused r) σ image older a some fits e = e ∙ sym (byte-refused w c (σ .burst) image older a)
 byte-fed w c (Clocked b None) σ image older a some fits e = byte-acted w c b (given None σ) image older a some fits e
 byte-fed w c (Clocked b (Some x)) σ image older a some fits e = byte-acted w c b (given (Some x) σ) image older a some fits e
@@ -101,7 +101,7 @@ burst-refused b Idle = refl
 burst-refused b (Read o k) = refl
 burst-refused b (Write o k m d) = refl
 
-burst-fed : (w : ℕ) (c : Command) (b : Answer) (σ : State) → fed w σ c b .burst ≡ left-open (σ .burst) c (taken b)
+burst-fed : (w : ℕ) (c : Command) (b : Answer) (σ : State) → fed w σ c b .burst ≡ left-open (σ .burst) c (was-taken b)
 burst-fed w c (Refused r) σ = burst-refused (σ .burst) c
 burst-fed w c (Clocked b None) σ = burst-acted w c b (given None σ)
 burst-fed w c (Clocked b (Some x)) σ = burst-acted w c b (given (Some x) σ)
@@ -132,17 +132,17 @@ book-burst : (w : ℕ) (image : List ℕ) (h : List Event) → book w image h .b
 unfolding book open-after
 book-burst w image [] = refl
 book-burst w image (e ∷ h) =
-    burst-fed w (e .call) (e .answer) (book w image h) ∙ ap (λ b. left-open b (e .call) (taken (e .answer))) (book-burst w image h)
+    burst-fed w (e .call) (e .answer) (book w image h) ∙ ap (λ b. left-open b (e .call) (was-taken (e .answer))) (book-burst w image h)
 
 -- each byte of a book's memory is that of the newest beat that stores it, else of the image
-book-byte : (w : ℕ) (image : List ℕ) (h : List Event) (a : ℕ) → 1 ≤ w → a < length image → byte-in (book w image h .memory) a ≡ byte-from w image (beats h) a
-unfolding book beats byte-from
+book-byte : (w : ℕ) (image : List ℕ) (h : List Event) (a : ℕ) → 1 ≤ w → a < length image → byte-in (book w image h .memory) a ≡ byte-from w image (beats-taken h) a
+unfolding book beats-taken byte-from
 book-byte w image [] a some fits = refl
 book-byte w image (e ∷ h) a some fits =
     let fit : a < length (book w image h .memory) = omega (arith, book-size w image h) in
-    subst (λ b. byte-in (fed w (book w image h) (e .call) (e .answer) .memory) a ≡ byte-from w image (beat-of b (e .call) (taken (e .answer)) ++ beats h) a)
+    subst (λ b. byte-in (fed w (book w image h) (e .call) (e .answer) .memory) a ≡ byte-from w image (beat-of b (e .call) (was-taken (e .answer)) ++ beats-taken h) a)
     (book-burst w image h)
-    (byte-fed w (e .call) (e .answer) (book w image h) image (beats h) a some fit (book-byte w image h a some fits))
+    (byte-fed w (e .call) (e .answer) (book w image h) image (beats-taken h) a some fit (book-byte w image h a some fits))
 
 -- Words ----------------------------------------------------------------------------
 
@@ -163,7 +163,7 @@ first-out x (y ∷ owed) new f = ap (λ z. z ∷ (owed ++ new)) f
 
 -- the word that comes, then what is owed, is what was owed, then what is asked
 owed-next : (w : ℕ) (c : Command) (b : Reply) (x : Option ℕ) (σ : State) → First x (σ .owed) →
-    word-in (Clocked b x) ++ next w σ c b x .owed ≡ σ .owed ++ asked w (byte-in (σ .memory)) c (takes b)
+    word-in (Clocked b x) ++ moved w σ c b x .owed ≡ σ .owed ++ asked w (byte-in (σ .memory)) c (takes b)
 owed-next w c b None σ first = owed-acted w c b (given None σ)
 owed-next w c b (Some x) σ first =
     ap (λ xs. x ∷ xs) (owed-acted w c b (given (Some x) σ)) ∙ first-out x (σ .owed) (asked w (byte-in (σ .memory)) c (takes b)) first
@@ -184,8 +184,8 @@ asked-agree n b f g (Read o k) true free same =
 asked-agree n b f g (Read o k) false free same = refl
 asked-agree n b f g (Write o k m d) t free same = refl
 
-words-so-far : (n : Numbers) (image : List ℕ) (h : List Event) → Served n image h → returned h ++ book (n .width) image h .owed ≡ requested (n .width) image h
-unfolding Served returned requested book
+words-so-far : (n : Numbers) (image : List ℕ) (h : List Event) → Served n image h → words-returned h ++ book (n .width) image h .owed ≡ words-requested (n .width) image h
+unfolding Served words-returned words-requested book
 words-so-far n image [] served = refl
 words-so-far n image (e ∷ h) served = served .0 .words
 
@@ -202,7 +202,7 @@ waits-acted w (Write o k m d) reply.Idle σ t = omega arith
 waits-acted w (Write o k m d) reply.Wait σ t = omega arith
 waits-acted w (Write o k m d) reply.Take σ t = cc
 
-waits-fed : (w : ℕ) (c : Command) (b : Answer) (σ : State) → taken b ≡ false → fed w σ c b .waits ≡ wait-in b + σ .waits
+waits-fed : (w : ℕ) (c : Command) (b : Answer) (σ : State) → was-taken b ≡ false → fed w σ c b .waits ≡ wait-in b + σ .waits
 waits-fed w c (Refused r) σ t = omega arith
 waits-fed w c (Clocked b None) σ t = waits-acted w c b (given None σ) t
 waits-fed w c (Clocked b (Some x)) σ t = waits-acted w c b (given (Some x) σ) t
@@ -249,7 +249,7 @@ within-moves n σ c (Clocked a x) τ legal moves = moves .within
 
 words-moves : (n : Numbers) (σ : State) (c : Command) (b : Answer) (τ : State) (byte : ℕ → ℕ) (before wanted : List ℕ) → Moves n σ c b τ →
     ((i : ℕ) → i < n .words * n .width → byte-in (σ .memory) i ≡ byte i) → before ++ σ .owed ≡ wanted →
-    (before ++ word-in b) ++ τ .owed ≡ wanted ++ asked (n .width) byte c (taken b)
+    (before ++ word-in b) ++ τ .owed ≡ wanted ++ asked (n .width) byte c (was-taken b)
 words-moves n σ c (Refused r) τ byte before wanted moves same so-far =
     ap (λ xs. xs ++ τ .owed) (append-nil before) ∙ ap (λ (υ : State). before ++ υ .owed) (moves .1) ∙ so-far ∙ sym (append-nil wanted) ∙ ap (λ xs. wanted ++ xs) (sym (asked-none (n .width) byte c))
 words-moves n σ c (Clocked a x) τ byte before wanted moves same so-far =
@@ -263,7 +263,7 @@ words-moves n σ c (Clocked a x) τ byte before wanted moves same so-far =
 
 pub lawful : (n : Numbers) (image : List ℕ) (h : List Event) (σ : State) (c : Command) (b : Answer) (τ : State) → Legal n σ → book (n .width) image h ≡ σ → Served n image h → Moves n σ c b τ →
     Lawful n image (record { call = c; answer = b }) h
-unfolding book returned requested
+unfolding book words-returned words-requested
 lawful n image h σ c b τ legal is served moves =
     let w = n .width in
     let e : Event = record { call = c; answer = b } in
@@ -271,13 +271,13 @@ lawful n image h σ c b τ legal is served moves =
     let now-is : book w image (e ∷ h) ≡ τ = ap (λ (υ : State). fed w υ c b) is ∙ fed-moves n σ c b τ moves in
     let kept = subst (Within n) (sym now-is) (within-moves n σ c b τ legal moves) in
     let size : length image ≡ n .words * w = sym (book-size w image h) ∙ ap (λ (υ : State). length (υ .memory)) is ∙ legal .size in
-    let same : (i : ℕ) → i < n .words * w → byte-in (σ .memory) i ≡ byte-from w image (beats h) i =
+    let same : (i : ℕ) → i < n .words * w → byte-in (σ .memory) i ≡ byte-from w image (beats-taken h) i =
     λ i lt. ap (λ (υ : State). byte-in (υ .memory) i) (sym is) ∙ book-byte w image h i (some .0) (omega arith) in
-    let so-far : returned h ++ σ .owed ≡ requested w image h = ap (λ (υ : State). returned h ++ υ .owed) (sym is) ∙ words-so-far n image h served in
-    let words = words-moves n σ c b τ (byte-from w image (beats h)) (returned h) (requested w image h) moves same so-far in
+    let so-far : words-returned h ++ σ .owed ≡ words-requested w image h = ap (λ (υ : State). words-returned h ++ υ .owed) (sym is) ∙ words-so-far n image h served in
+    let words = words-moves n σ c b τ (byte-from w image (beats-taken h)) (words-returned h) (words-requested w image h) moves same so-far in
     record {
       judged = subst (λ (υ : State). Judged n υ c b) (sym is) (judged-moves n σ c b τ moves);
-      words = ap (λ (υ : State). (returned h ++ word-in b) ++ υ .owed) now-is ∙ words;
+      words = ap (λ (υ : State). (words-returned h ++ word-in b) ++ υ .owed) now-is ∙ words;
       pending = kept .pending;
       waiting = λ stretch older cut none.
           let most = waits-book w image stretch older none in

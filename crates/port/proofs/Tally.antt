@@ -14,7 +14,7 @@ use Rattle.std.proofs.shelf.Lists.{length-append, length-push}
 use Rattle.std.proofs.shelf.Tests.{cond-both}
 use Rattle.port.specs.Lanes.{byte-in}
 use Rattle.port.specs.Legal.{Legal, Open-within, Reads-within, Within-reach, tally, total}
-use Rattle.port.specs.Machine.{acted, command-rule, given, hold-rule, lanes-rule, next, one-came, opening-rule, read-words, refusal}
+use Rattle.port.specs.Machine.{acted, command-rule, given, hold-rule, lanes-rule, moved, one-came, opening-rule, read-words, refusal-in}
 use Rattle.port.specs.State.{Ranges, State}
 use Rattle.port.specs.Widths.{Wide}
 use Rattle.port.specs.declared.addresses.WordOffset.{WordOffset}
@@ -82,7 +82,7 @@ words-below n ranges =
     let h = mul-le (n .words) 1 (n .words) (n .width) (omega arith) (some .0) in
     omega arith
 
-pub reach : (n : Numbers) (σ : State) (x : Option ℕ) (c : Command) → Legal n σ → refusal n σ c ≡ None → Within-reach (given x σ .burst) c
+pub reach : (n : Numbers) (σ : State) (x : Option ℕ) (c : Command) → Legal n σ → refusal-in n σ c ≡ None → Within-reach (given x σ .burst) c
 reach n σ x c legal free =
     let here = beat-reach n (σ .burst) c (words-below n (legal .ranges)) (legal .opened) (first-later (hold-rule (σ .burst) (σ .held) c) (command-rule n (σ .burst) c) free) in
     elim x as (λ y. Within-reach (given y σ .burst) c) [ None ↦ here | Some v ↦ here ]

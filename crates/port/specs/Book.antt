@@ -2,7 +2,7 @@
 -- answer. The machine's last rule is not built into it.
 use Prim.Native.Nat.{ℕ}
 use mathlib.Core.List.{List, [], _∷_}
-use Rattle.port.specs.Machine.{next}
+use Rattle.port.specs.Machine.{moved}
 use Rattle.port.specs.State.{State, reset}
 use Rattle.port.specs.declared.calls.Answer.{Answer}
 use Rattle.port.specs.declared.calls.Answer.the-variants.{Refused, Clocked}
@@ -21,7 +21,7 @@ after-calls (c ∷ cs) (b ∷ bs) h = after-calls cs bs (record { call = c; answ
 
 abbrev pub fed : ℕ → State → Command → Answer → State
 fed w σ c (Refused r) = σ
-fed w σ c (Clocked a x) = next w σ c a x
+fed w σ c (Clocked a x) = moved w σ c a x
 
 unfoldable pub book : ℕ → List ℕ → List Event → State
 book w image [] = reset image

@@ -69,8 +69,8 @@ command-rule n (Some b) (Write o k m d) = lanes-rule n m d
 abbrev pub refusal-by : Numbers → Option OpenBurst → Option Command → Command → Option ℕ
 refusal-by n b h c = first-of (hold-rule b h c) (command-rule n b c)
 
-abbrev pub refusal : Numbers → State → Command → Option ℕ
-refusal n σ c = refusal-by n (σ .burst) (σ .held) c
+abbrev pub refusal-in : Numbers → State → Command → Option ℕ
+refusal-in n σ c = refusal-by n (σ .burst) (σ .held) c
 
 -- Moves ---------------------------------------------------------------------
 
@@ -121,8 +121,8 @@ acted w (Write o k m d) reply.Take σ =
     record { memory = stored w (beat-offset (σ .burst) (o .0)) m d (σ .memory); burst = burst-after (σ .burst) (o .0) k; held = None; owed = σ .owed; reads = σ .reads; waits = 0; silence = σ .silence }
 
 -- the state after a clocked call: the word first, then idle, wait or take
-abbrev pub next : ℕ → State → Command → Reply → Option ℕ → State
-next w σ c a x = acted w c a (given x σ)
+abbrev pub moved : ℕ → State → Command → Reply → Option ℕ → State
+moved w σ c a x = acted w c a (given x σ)
 
 -- idle is answered by idle, and any other command by wait or take
 abbrev pub Answers : Command → Reply → Type 0
@@ -144,13 +144,13 @@ First (Some x) (y ∷ owed) = x ≡ y
 
 -- what a clocked call shows. Which calls wait and which return a word is left free to the make of port, within the last rule
 pub record Clocks (n : Numbers) (σ : State) (c : Command) (a : Reply) (x : Option ℕ) (τ : State) : Type 0 where
-  pub legal : refusal n σ c ≡ None
+  pub legal : refusal-in n σ c ≡ None
   pub answers : Answers c a
   pub first : First x (σ .owed)
-  pub moves : τ ≡ next (n .width) σ c a x
+  pub moves : τ ≡ moved (n .width) σ c a x
   pub within : Within n τ
 
 -- a clock call: refused with exactly the rules' number, and nothing changed; or clocked
 abbrev pub Moves : Numbers → State → Command → Answer → State → Type 0
-Moves n σ c (Refused r) τ = (refusal n σ c ≡ Some (number-of r)) × (τ ≡ σ)
+Moves n σ c (Refused r) τ = (refusal-in n σ c ≡ Some (number-of r)) × (τ ≡ σ)
 Moves n σ c (Clocked a x) τ = Clocks n σ c a x τ

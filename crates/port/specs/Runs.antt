@@ -7,7 +7,7 @@ use lib.Dec.{eqb}
 use lib.ListN.{length}
 use Rattle.port.specs.Book.{Event, after-calls, book}
 use Rattle.port.specs.Lanes.{byte-in, enabled, lane, words-at}
-use Rattle.port.specs.Machine.{Answers, beat-offset, burst-after, refusal}
+use Rattle.port.specs.Machine.{Answers, beat-offset, burst-after, refusal-in}
 use Rattle.port.specs.Refusals.{number-of}
 use Rattle.port.specs.State.{State}
 use Rattle.port.specs.declared.calls.Answer.{Answer}
@@ -28,9 +28,9 @@ takes reply.Idle = false
 takes reply.Wait = false
 takes reply.Take = true
 
-abbrev pub taken : Answer → Bool
-taken (Refused r) = false
-taken (Clocked a x) = takes a
+abbrev pub was-taken : Answer → Bool
+was-taken (Refused r) = false
+was-taken (Clocked a x) = takes a
 
 abbrev pub one-wait : Reply → ℕ
 one-wait reply.Idle = 0
@@ -53,9 +53,9 @@ word-in (Clocked a (Some x)) = x ∷ []
 -- The words returned and the words requested ----------------------------------
 
 -- the words in the answers, in order
-unfoldable pub returned : List Event → List ℕ
-returned [] = []
-returned (e ∷ h) = returned h ++ word-in (e .answer)
+unfoldable pub words-returned : List Event → List ℕ
+words-returned [] = []
+words-returned (e ∷ h) = words-returned h ++ word-in (e .answer)
 
 -- the write burst that a command leaves open, taken or not
 abbrev pub left-open : Option OpenBurst → Command → Bool → Option OpenBurst
@@ -66,7 +66,7 @@ left-open b (Write o k m d) t = cond t (burst-after b (o .0) k) b
 -- the write burst that a history leaves open
 unfoldable pub open-after : List Event → Option OpenBurst
 open-after [] = None
-open-after (e ∷ h) = left-open (open-after h) (e .call) (taken (e .answer))
+open-after (e ∷ h) = left-open (open-after h) (e .call) (was-taken (e .answer))
 
 -- a taken beat: where it went, and with which lanes
 pub record Beat : Type 0 where
@@ -81,9 +81,9 @@ beat-of b (Read o k) t = []
 beat-of b (Write o k m d) t = cond t (record { at = beat-offset b (o .0); lanes = m; content = d } ∷ []) []
 
 -- the taken beats of a history, the newest first
-unfoldable pub beats : List Event → List Beat
-beats [] = []
-beats (e ∷ h) = beat-of (open-after h) (e .call) (taken (e .answer)) ++ beats h
+unfoldable pub beats-taken : List Event → List Beat
+beats-taken [] = []
+beats-taken (e ∷ h) = beat-of (open-after h) (e .call) (was-taken (e .answer)) ++ beats-taken h
 
 -- does a beat store the byte at an address?
 abbrev pub covers : ℕ → Beat → ℕ → Bool
@@ -103,16 +103,16 @@ asked w byte (Write o k m d) t = []
 
 -- the words that the taken reads requested, in order, each with the bytes that the image and the beats taken before
 -- its read give
-unfoldable pub requested : ℕ → List ℕ → List Event → List ℕ
-requested w image [] = []
-requested w image (e ∷ h) = requested w image h ++ asked w (byte-from w image (beats h)) (e .call) (taken (e .answer))
+unfoldable pub words-requested : ℕ → List ℕ → List Event → List ℕ
+words-requested w image [] = []
+words-requested w image (e ∷ h) = words-requested w image h ++ asked w (byte-from w image (beats-taken h)) (e .call) (was-taken (e .answer))
 
 -- Stretches of calls -----------------------------------------------------------
 
 -- no command is taken in a stretch
 abbrev pub Untaken : List Event → Type 0
 Untaken [] = Unit {0}
-Untaken (e ∷ es) = (taken (e .answer) ≡ false) × Untaken es
+Untaken (e ∷ es) = (was-taken (e .answer) ≡ false) × Untaken es
 
 -- how many calls of a stretch were told to wait
 abbrev pub waits-in : List Event → ℕ
@@ -139,14 +139,14 @@ clocked-in (e ∷ es) = clock-in (e .answer) + clocked-in es
 
 -- a call is refused exactly for the rules' reasons, with their number, and otherwise answered in kind
 abbrev pub Judged : Numbers → State → Command → Answer → Type 0
-Judged n σ c (Refused r) = refusal n σ c ≡ Some (number-of r)
-Judged n σ c (Clocked a x) = (refusal n σ c ≡ None) × Answers c a
+Judged n σ c (Refused r) = refusal-in n σ c ≡ Some (number-of r)
+Judged n σ c (Clocked a x) = (refusal-in n σ c ≡ None) × Answers c a
 
 -- what holds after the call e with the history h before it
 pub record Lawful (n : Numbers) (image : List ℕ) (e : Event) (h : List Event) : Type 0 where
   pub judged : Judged n (book (n .width) image h) (e .call) (e .answer)
   -- words returned, then words owed, are exactly those requested
-  pub words : returned (e ∷ h) ++ book (n .width) image (e ∷ h) .owed ≡ requested (n .width) image (e ∷ h)
+  pub words : words-returned (e ∷ h) ++ book (n .width) image (e ∷ h) .owed ≡ words-requested (n .width) image (e ∷ h)
   -- never more than P bursts are owed
   pub pending : length (book (n .width) image (e ∷ h) .reads) ≤ n .«pending_limit»
   -- calls without a take have at most A waits: a command repeated until taken waits at most A times

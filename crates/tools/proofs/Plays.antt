@@ -6,7 +6,7 @@ use native.Mathlib.Omega.{arith}
 use lib.Dec.{eqb, leb}
 use Rattle.std.proofs.shelf.Tests.{and-right, eq-eqb, lt-leb, ne-eqb}
 use Rattle.port.specs.Legal.{tally}
-use Rattle.port.specs.Machine.{Clocks, Moves, broken, first-of, refusal, refusal-by}
+use Rattle.port.specs.Machine.{Clocks, Moves, broken, first-of, refusal-in, refusal-by}
 use Rattle.port.specs.Refusals.{Numbered, number-of}
 use Rattle.port.specs.State.{State}
 use Rattle.port.specs.declared.addresses.WordOffset.{WordOffset}
@@ -58,7 +58,7 @@ pub plays-put : (n : Numbers) (σ : State) (f : CommandFields) (c : Command) (b 
 plays-put n σ f c (Refused r) τ w e ok all moves =
     let free : host-rule (n .width) (σ .burst) f ≡ None = subst (λ v. host-rule v (σ .burst) f ≡ None) (sym e) (ok .0) in
     let same : c ≡ command-in (n .width) f = subst (λ v. c ≡ command-in v f) (sym e) (ok .1) in
-    let broke : refusal n σ (command-in (n .width) f) ≡ Some (number-of r) = subst (λ (d : Command). refusal n σ d ≡ Some (number-of r)) same (moves .0) in
+    let broke : refusal-in n σ (command-in (n .width) f) ≡ Some (number-of r) = subst (λ (d : Command). refusal-in n σ d ≡ Some (number-of r)) same (moves .0) in
     (rw (free, broke), moves .1)
 plays-put n σ f c (Clocked a x) τ w e ok all moves =
     let free : host-rule (n .width) (σ .burst) f ≡ None = subst (λ v. host-rule v (σ .burst) f ≡ None) (sym e) (ok .0) in
@@ -69,19 +69,19 @@ plays-put n σ f c (Clocked a x) τ w e ok all moves =
 
 -- a read that does not name all lanes: the port's reasons come first
 pub plays-reason : (n : Numbers) (σ : State) (f : CommandFields) (c : Command) (r : Refusal) (w : ℕ) → n .width ≡ w → Converted w (σ .burst) f (Ok c) →
-    refusal n σ c ≡ Some (number-of r) → Played n σ f (Refused r) σ
+    refusal-in n σ c ≡ Some (number-of r) → Played n σ f (Refused r) σ
 plays-reason n σ f c r w e ok broke =
     let free : host-rule (n .width) (σ .burst) f ≡ None = subst (λ v. host-rule v (σ .burst) f ≡ None) (sym e) (ok .0) in
     let same : c ≡ command-in (n .width) f = subst (λ v. c ≡ command-in v f) (sym e) (ok .1) in
-    let here : refusal n σ (command-in (n .width) f) ≡ Some (number-of r) = subst (λ (d : Command). refusal n σ d ≡ Some (number-of r)) same broke in
+    let here : refusal-in n σ (command-in (n .width) f) ≡ Some (number-of r) = subst (λ (d : Command). refusal-in n σ d ≡ Some (number-of r)) same broke in
     (rw (free, here), refl)
 
 pub plays-lanes : (n : Numbers) (σ : State) (f : CommandFields) (c : Command) (w : ℕ) → n .width ≡ w → Converted w (σ .burst) f (Ok c) →
-    refusal n σ c ≡ None → all-lanes w f ≡ false → Played n σ f (Refused Lanes) σ
+    refusal-in n σ c ≡ None → all-lanes w f ≡ false → Played n σ f (Refused Lanes) σ
 plays-lanes n σ f c w e ok fine some =
     let free : host-rule (n .width) (σ .burst) f ≡ None = subst (λ v. host-rule v (σ .burst) f ≡ None) (sym e) (ok .0) in
     let same : c ≡ command-in (n .width) f = subst (λ v. c ≡ command-in v f) (sym e) (ok .1) in
-    let here : refusal n σ (command-in (n .width) f) ≡ None = subst (λ (d : Command). refusal n σ d ≡ None) same fine in
+    let here : refusal-in n σ (command-in (n .width) f) ≡ None = subst (λ (d : Command). refusal-in n σ d ≡ None) same fine in
     let lanes : all-lanes (n .width) f ≡ false = subst (λ v. all-lanes v f ≡ false) (sym e) some in
     (rw (free, here, lanes), refl)
 
@@ -89,7 +89,7 @@ plays-lanes n σ f c w e ok fine some =
 pub burst-told : (n : Numbers) (σ : State) (p : PortRecord) → p ≡ tally n σ → p .burst ≡ σ .burst
 burst-told n σ p e = ap (λ (q : PortRecord). q .burst) e
 
-pub refusal-told : (n : Numbers) (σ : State) (p : PortRecord) (c : Command) (r : Option ℕ) → p ≡ tally n σ → refusal-by (p .numbers) (p .burst) (p .held) c ≡ r → refusal n σ c ≡ r
+pub refusal-told : (n : Numbers) (σ : State) (p : PortRecord) (c : Command) (r : Option ℕ) → p ≡ tally n σ → refusal-by (p .numbers) (p .burst) (p .held) c ≡ r → refusal-in n σ c ≡ r
 refusal-told n σ p c r e h = subst (λ (q : PortRecord). refusal-by (q .numbers) (q .burst) (q .held) c ≡ r) e h
 
 pub host-told : (n : Numbers) (σ : State) (p : PortRecord) (w : ℕ) (f : CommandFields) (r : Option ℕ) → p ≡ tally n σ → host-rule w (p .burst) f ≡ r → host-rule w (σ .burst) f ≡ r

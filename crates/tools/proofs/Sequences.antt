@@ -11,7 +11,7 @@ use Rattle.std.proofs.shelf.Lists.{at-drop-all, at-drop-more, length-push, leng
 use Rattle.port.specs.Book.{Event, book, fed}
 use Rattle.port.specs.Legal.{Legal}
 use Rattle.port.specs.Machine.{Moves}
-use Rattle.port.specs.Runs.{Served, taken}
+use Rattle.port.specs.Runs.{Served, was-taken}
 use Rattle.port.specs.State.{State}
 use Rattle.port.specs.declared.calls.Answer.{Answer}
 use Rattle.port.specs.declared.calls.Answer.the-variants.{Refused, Clocked}
@@ -105,11 +105,11 @@ fields-are ys zs f e found =
 
 -- Taken commands --------------------------------------------------------------------
 
-pub count-more : (bs : List Answer) (i : ℕ) (d : Answer) (count : ℕ) (t : Bool) (more : ℕ) → i < length bs → t ≡ taken (getD bs i d) → more ≡ count + cond t 1 0 → count + takes-in (drop i bs) ≡ takes-in bs →
+pub count-more : (bs : List Answer) (i : ℕ) (d : Answer) (count : ℕ) (t : Bool) (more : ℕ) → i < length bs → t ≡ was-taken (getD bs i d) → more ≡ count + cond t 1 0 → count + takes-in (drop i bs) ≡ takes-in bs →
     more + takes-in (drop (i + 1) bs) ≡ takes-in bs
 count-more bs i d count t more lt told step so-far =
-    let cut : takes-in (drop i bs) ≡ cond (taken (getD bs i d)) 1 0 + takes-in (drop (i + 1) bs) = at-drop-more takes-in bs i d lt in
-    let same : cond {A = ℕ} t 1 0 ≡ cond (taken (getD bs i d)) 1 0 = ap (λ (s : Bool). cond {A = ℕ} s 1 0) told in
+    let cut : takes-in (drop i bs) ≡ cond (was-taken (getD bs i d)) 1 0 + takes-in (drop (i + 1) bs) = at-drop-more takes-in bs i d lt in
+    let same : cond {A = ℕ} t 1 0 ≡ cond (was-taken (getD bs i d)) 1 0 = ap (λ (s : Bool). cond {A = ℕ} s 1 0) told in
     omega arith
 
 pub count-all : (bs : List Answer) (i count : ℕ) → length bs ≤ i → count + takes-in (drop i bs) ≡ takes-in bs → count ≡ takes-in bs

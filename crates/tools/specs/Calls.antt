@@ -3,7 +3,7 @@ use Prim.Native.Nat.{ℕ, _-_, _/_, _%_, _^_}
 use mathlib.Core.Path.{_≡_}
 use mathlib.Core.Bool.{Bool, true, false, cond, not, _&&_, _||_}
 use lib.Dec.{eqb, leb}
-use Rattle.port.specs.Machine.{Clocks, broken, first-of, refusal}
+use Rattle.port.specs.Machine.{Clocks, broken, first-of, refusal-in}
 use Rattle.port.specs.Refusals.{number-of}
 use Rattle.port.specs.State.{State}
 use Rattle.port.specs.declared.addresses.WordOffset.{WordOffset}
@@ -55,7 +55,7 @@ mask-rule w f = broken (not (all-lanes w f)) 8
 -- the number with which a command of a session is refused: 9, 7, then the port's reasons, with a read's mask last
 abbrev pub session-refusal : Numbers → State → CommandFields → Option ℕ
 session-refusal n σ f =
-    first-of (host-rule (n .width) (σ .burst) f) (first-of (refusal n σ (command-in (n .width) f)) (mask-rule (n .width) f))
+    first-of (host-rule (n .width) (σ .burst) f) (first-of (refusal-in n σ (command-in (n .width) f)) (mask-rule (n .width) f))
 
 -- a command of a session, its answer and the state after it
 abbrev pub Played : Numbers → State → CommandFields → Answer → State → Type 0

@@ -5,7 +5,7 @@ use mathlib.Core.Bool.{cond}
 use mathlib.Core.List.{List, [], _∷_, _++_}
 use Rattle.port.specs.Book.{Event, book}
 use Rattle.port.specs.Refusals.{number-of}
-use Rattle.port.specs.Runs.{Served, taken}
+use Rattle.port.specs.Runs.{Served, was-taken}
 use Rattle.port.specs.State.{State}
 use Rattle.port.specs.declared.calls.Answer.{Answer}
 use Rattle.port.specs.declared.calls.Answer.the-variants.{Refused, Clocked}
@@ -56,4 +56,4 @@ Session-ran n σ fs bs τ =
 -- how many commands were taken, each beat counted
 abbrev pub takes-in : List Answer → ℕ
 takes-in [] = 0
-takes-in (b ∷ bs) = cond (taken b) 1 0 + takes-in bs
+takes-in (b ∷ bs) = cond (was-taken b) 1 0 + takes-in bs

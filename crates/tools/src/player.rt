@@ -5,7 +5,7 @@ ghost use lib.ListN.{drop, length};
 ghost use Rattle.port.specs.Refusals.{number-of};
 ghost use Rattle.std.specs.declared.result.Result.the-variants.{Err, Ok};
 ghost use Rattle.tools.specs.Plays.{Session-ran, commands-in, takes-in};
-ghost use Rattle.port.specs.Runs.{taken as answered-take};
+ghost use Rattle.port.specs.Runs.{was-taken};
 use crate::calls::play_one;
 use files::records::command_fields;
 use files::session::Session;
@@ -50,7 +50,7 @@ pub(crate) fn play_all<W: Width, P: Port>(
 
 /// Whether a command was taken.
 fn is_taken(answer: &Answer) -> bool
-    ensures { λ r. ⌜ r ≡ answered-take (now (answer .entry)) ⌝ }
+    ensures { λ r. ⌜ r ≡ was-taken (now (answer .entry)) ⌝ }
 {
     match answer {
         Answer::Clocked(Reply::Take, _) => true,

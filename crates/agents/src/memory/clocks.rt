@@ -2,7 +2,7 @@
 //! in its own contract, so the memory has the same call as a method of its own, which does.
 ghost use mathlib.Core.Path.{_≡_};
 ghost use Rattle.agents.specs.Memory.{Sound, Timed, Whole, fixed-of, state-of};
-ghost use Rattle.port.specs.Machine.{Moves, refusal};
+ghost use Rattle.port.specs.Machine.{Moves, refusal-in};
 ghost use Rattle.std.specs.declared.option.Option.the-variants.{None};
 use crate::memory::Parts;
 use crate::memory::ScriptedMemory;
@@ -15,7 +15,7 @@ use port::width::Width;
 impl<'a> Parts<'a> {
     /// A clock call that is not refused: a word back if one is due, then idle, wait or take.
     fn serve<W: Width>(&mut self, command: Command) -> Answer
-        requires { ⌜ Sound (now self) ⌝ ∗ ⌜ fixed-of (now self) .width ≡ W·Width .wide ⌝ ∗ ⌜ refusal (fixed-of (now self)) (state-of (now self)) command ≡ None ⌝ }
+        requires { ⌜ Sound (now self) ⌝ ∗ ⌜ fixed-of (now self) .width ≡ W·Width .wide ⌝ ∗ ⌜ refusal-in (fixed-of (now self)) (state-of (now self)) command ≡ None ⌝ }
         ensures sound { λ _. ⌜ Sound (now (self .exit)) ⌝ }
         ensures fixed { λ _. ⌜ fixed-of (now (self .exit)) ≡ fixed-of (now (self .entry)) ⌝ }
         ensures moves { λ a. ⌜ Moves (fixed-of (now (self .entry))) (state-of (now (self .entry))) command a (state-of (now (self .exit))) ⌝ }

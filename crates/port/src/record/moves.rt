@@ -5,7 +5,7 @@ ghost use mathlib.Core.List.{List};
 ghost use mathlib.Core.Path.{_≡_};
 ghost use lib.ListN.{length};
 ghost use Rattle.port.specs.Legal.{Came, Legal, Within-reach, tally};
-ghost use Rattle.port.specs.Machine.{Answers, acted, beat-offset, burst-after, given, next, refusal, rest-of-burst};
+ghost use Rattle.port.specs.Machine.{Answers, acted, beat-offset, burst-after, given, moved, refusal-in, rest-of-burst};
 ghost use Rattle.port.specs.State.{State, Within, reset};
 ghost use Rattle.port.specs.declared.calls.Reply.the-variants.{Take};
 ghost use Rattle.std.specs.declared.option.Option.{Option};
@@ -105,8 +105,8 @@ impl PortRecord {
 
     /// Moves with a clocked call that is not refused: the make of port says how it answers and what came back.
     pub fn clock(&mut self, command: Command, reply: Reply, returned: Returned)
-        ensures { λ _. ⌜ ((n : Numbers) (σ : State) (x : Option ℕ) → now (self .entry) ≡ tally n σ → Legal n σ → refusal n σ command ≡ None
-            → Came returned x (σ .reads) → now (self .exit) ≡ tally n (next (n .width) σ command reply x)) ⌝ }
+        ensures { λ _. ⌜ ((n : Numbers) (σ : State) (x : Option ℕ) → now (self .entry) ≡ tally n σ → Legal n σ → refusal-in n σ command ≡ None
+            → Came returned x (σ .reads) → now (self .exit) ≡ tally n (moved (n .width) σ command reply x)) ⌝ }
     {
         self.give(returned);
         match reply {
