@@ -1,11 +1,11 @@
 //! The records of a session file, each as the very stretch of the file that carries it, and the fields in them.
 //! Numbers of several bytes stand low byte first.
-ghost use Prim.Native.Nat.{ℕ, _+_, _*_, _≤_, _<_};
+ghost use Prim.Native.Nat.{_+_, _*_, _<_};
 ghost use Rattle.std.specs.declared.option.Option.the-variants.{None, Some};
 ghost use Rattle.files.specs.Bytes.{number-at};
 ghost use Rattle.files.specs.Parts.{Piece};
 ghost use Rattle.files.specs.Fields.{commandIn, pileIn};
-ghost use lib.ListN.{getD, length};
+ghost use lib.ListN.{length};
 ghost use mathlib.Core.Path.{_≡_};
 
 /// A stretch of a file, with its place in the file.

@@ -1,10 +1,9 @@
 //! The six sections of a session file: the size of their records, the counts and the records that they allow.
 //! Only pile 2, which has no adapters, is built so far.
-ghost use Prim.Native.Nat.{ℕ, _+_, _*_, _≤_, _<_};
+ghost use Prim.Native.Nat.{_<_};
 ghost use Rattle.std.specs.declared.option.Option.the-variants.{None, Some};
 ghost use Rattle.files.specs.Faults.{fault-at};
 ghost use Rattle.files.specs.Sections.{adapters-in, allowed, bytes-each, carrier, commandWrong, pileWrong, rank, ranged, recordIn, wrong};
-ghost use lib.ListN.{length};
 ghost use mathlib.Core.Path.{_≡_};
 use crate::faults::Fault;
 use crate::faults::FileFault;

@@ -1,8 +1,7 @@
 //! The run over a list of calls, for every port, with the law over lists.
-ghost use Prim.Native.Nat.{ℕ, _≤_, _<_};
-ghost use mathlib.Core.List.{List};
+ghost use Prim.Native.Nat.{_≤_, _<_};
 ghost use mathlib.Core.Path.{_≡_};
-ghost use lib.ListN.{length, take, drop};
+ghost use lib.ListN.{length, drop};
 ghost use Rattle.port.specs.Refusals.{number-of};
 ghost use Rattle.port.specs.Runs.{Ran};
 ghost use Rattle.std.specs.declared.result.Result.the-variants.{Ok, Err};

@@ -1,5 +1,5 @@
 //! The widths of a word, as types, and the two conversions between byte addresses and word offsets.
-ghost use Prim.Native.Nat.{ℕ, _+_, _*_, _/_, _%_, _^_, _≤_, _<_};
+ghost use Prim.Native.Nat.{ℕ, _*_, _/_, _%_, _^_, _≤_, _<_};
 ghost use mathlib.Core.Path.{_≡_};
 ghost use Rattle.port.specs.Widths.{Wide};
 ghost use Rattle.std.specs.declared.option.Option.the-variants.{Some, None};

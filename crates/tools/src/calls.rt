@@ -1,10 +1,8 @@
 //! The commands of a session as they are put to a port: what the host's side refuses, and what goes on to the port.
-ghost use Prim.Native.Nat.{ℕ};
 ghost use mathlib.Core.Path.{_≡_};
-ghost use Rattle.port.specs.Refusals.{number-of};
 ghost use Rattle.std.specs.declared.option.Option.the-variants.{None, Some};
 ghost use Rattle.std.specs.declared.result.Result.the-variants.{Err, Ok};
-ghost use Rattle.tools.specs.Calls.{Converted, Placed, Played, all-lanes, host-rule};
+ghost use Rattle.tools.specs.Calls.{Converted, Placed, Played, all-lanes};
 use files::records::CommandFields;
 use port::addresses::ByteAddress;
 use port::addresses::WordOffset;

@@ -1,5 +1,5 @@
 //! The steps of a reader: counts, records, and whole sections, each judged as it is read.
-ghost use Prim.Native.Nat.{ℕ, _+_, _*_, _-_, _≤_, _<_};
+ghost use Prim.Native.Nat.{_+_, _*_, _-_, _≤_, _<_};
 ghost use Rattle.std.specs.declared.option.Option.the-variants.{None, Some};
 ghost use Rattle.std.specs.declared.result.Result.the-variants.{Err, Ok};
 ghost use Rattle.files.specs.declared.faults.FileFault.the-variants.{Broken};

@@ -1,12 +1,12 @@
 //! The record of a port at reset, and after a clocked call. Sums saturate, and the contracts show that none does
 //! in a legal state.
-ghost use Prim.Native.Nat.{ℕ, _+_, _≤_, _<_};
+ghost use Prim.Native.Nat.{ℕ, _≤_, _<_};
 ghost use mathlib.Core.List.{List};
 ghost use mathlib.Core.Path.{_≡_};
 ghost use lib.ListN.{length};
 ghost use Rattle.port.specs.Legal.{Came, Legal, Within-reach, tally};
-ghost use Rattle.port.specs.Machine.{Answers, acted, beat-offset, burst-after, given, moved, refusal-in, rest-of-burst};
-ghost use Rattle.port.specs.State.{State, Within, reset};
+ghost use Rattle.port.specs.Machine.{acted, beat-offset, burst-after, given, moved, refusal-in, rest-of-burst};
+ghost use Rattle.port.specs.State.{State, reset};
 ghost use Rattle.port.specs.declared.calls.Reply.the-variants.{Take};
 ghost use Rattle.std.specs.declared.option.Option.{Option};
 ghost use Rattle.std.specs.declared.option.Option.the-variants.{None};

@@ -1,7 +1,7 @@
 //! When the port machine refuses a command.
 ghost use Prim.Native.Nat.{_+_, _*_};
 ghost use mathlib.Core.Path.{_≡_};
-ghost use Rattle.port.specs.Machine.{repeats, opening-rule, lanes-rule, command-rule, hold-rule, refusal-by};
+ghost use Rattle.port.specs.Machine.{repeats, opening-rule, lanes-rule, command-rule, refusal-by};
 ghost use Rattle.port.specs.Refusals.{Numbered};
 use crate::calls::Command;
 use crate::calls::OpenBurst;

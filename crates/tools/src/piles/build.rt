@@ -1,5 +1,5 @@
 //! Pile 2, a scripted memory with words of four bytes, is all that is built so far.
-ghost use Prim.Native.Nat.{ℕ, _*_, _/_, _<_, _≤_};
+ghost use Prim.Native.Nat.{ℕ, _*_, _<_};
 ghost use mathlib.Core.List.{List};
 ghost use mathlib.Core.Logic.{_⊎_};
 ghost use mathlib.Core.Path.{_≡_};
