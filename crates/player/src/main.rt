@@ -1,4 +1,5 @@
 //! The player: reads a session from standard input and prints what its pile answered, call by call.
+#![tactic(auto)]
 use std::io;
 use std::io::Read;
 use tools::lines::{CallLine, EndLine, HeadLine};

@@ -1,5 +1,7 @@
 //! The rules of an Avalon memory-mapped port with bursts: commands, answers, refusals, the port
 //! machine as the contract of the trait `Port`, and the run over a list of calls.
+#![tactic(auto)]
+
 pub mod addresses;
 pub mod calls;
 pub mod numbers;

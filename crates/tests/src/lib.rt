@@ -1,5 +1,6 @@
 //! Tests of the crates below, with expectations from the rules. They have a crate of their own, since a crate with tests
 //! is proved twice.
+#![tactic(auto)]
 #[cfg(test)]
 mod files;
 #[cfg(test)]

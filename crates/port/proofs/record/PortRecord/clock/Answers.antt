@@ -14,8 +14,8 @@ pub returns-in-Wait : goal.returns-in-Wait
 returns-in-Wait c n σ x e legal free came =
     let given = c.give.ensures n σ x e (silence_below n σ legal) came in
     let waits = waits_given n σ x c.give.new.self legal given in
-    tally_wait c.give.new.self n _ c.args.command c.args.reply c.saturating-add-self.result given c.in-Wait.is
-    (omega (arith, c.saturating-add-self.ensures))
+    tally_wait c.give.new.self n _ c.args.command c.args.reply c.saturating_add-self.result given c.in-Wait.is
+    (omega (arith, c.saturating_add-self.ensures))
 
 pub returns-in-Take : goal.returns-in-Take
 returns-in-Take c n σ x e legal free came =
