@@ -8,13 +8,13 @@ loop-i-init c =
     let n = c.args.n in
     (join_none (byte_in c.args.bytes.now) (c.args.start + n) n, small_none n)
 
-pub overflow-mul-word : goal.overflow-mul-word
-overflow-mul-word c =
+pub overflow_mul-word : goal.overflow_mul-word
+overflow_mul-word c =
     let f = small_fits c.args.n c.loop-i.i c.loop-i.word c.requires.0 (omega arith) c.loop-i.invariant.1 in
     omega arith
 
-pub overflow-add-word-in-loop-i : goal.overflow-add-word-in-loop-i
-overflow-add-word-in-loop-i c =
+pub overflow_add-word-in-loop-i : goal.overflow_add-word-in-loop-i
+overflow_add-word-in-loop-i c =
     let f = small_fits c.args.n c.loop-i.i c.loop-i.word c.requires.0 (omega arith) c.loop-i.invariant.1 in
     let b : get_or c.args.bytes.now (c.args.start + (c.loop-i.i - 1)) 0 < 256 = search rules in
     omega arith

@@ -6,15 +6,15 @@ use Rattle.agents.proofs.memory.Parts.over.Goals as goal
 pub returns : goal.returns
 returns g c =
     let s = c.args.storage in
-    let n = c.numbers-for-numbers.result in
+    let n = c.numbers_for-numbers.result in
     let m : Parts = record { bytes = s.bytes; waits = c.new.result; gaps = c.new-2.result; words = c.over.result; bursts = c.over-2.result; plain = c.new-3.result } in
-    built g.W.Width.wide s.bytes.now s.waits.now s.gaps.now c.args.burst-limit c.args.pending-limit (length s.words.now) (length s.bursts.now) n m c.new-3.result
+    built g.W.Width.wide s.bytes.now s.waits.now s.gaps.now c.args.burst_limit c.args.pending_limit (length s.words.now) (length s.bursts.now) n m c.new-3.result
     (record {
       wide = g.met.W.Width.widths;
       may = c.requires;
       bytes = c.look.ensures;
-      numbers = c.numbers-for-numbers.ensures.are;
-      small = c.numbers-for-numbers.ensures.small;
+      numbers = c.numbers_for-numbers.ensures.are;
+      small = c.numbers_for-numbers.ensures.small;
       memory = refl;
       words_none = c.over.ensures.0;
       words_fit = c.over.ensures.1.0;

@@ -13,9 +13,9 @@ pub returns : goal.returns
 returns g c =
     let r = c.args.self.now in
     let s = r.slots.now in
-    let d = c.item-at.result in
+    let d = c.item_at.result in
     let P : ℕ → Type 0 = λ p. around s r.head r.count ≡ get_or s p d ∷ around s (p + 1) (r.count - 1) in
     let e = subst P (sym c.start-place.ensures) (take_start s r.head r.count d c.requires.1 (omega arith) c.requires.0) in
-    let o = c.item-at.ensures in
+    let o = c.item_at.ensures in
     let f = ap first_item e in
     cc
