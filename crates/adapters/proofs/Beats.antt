@@ -3,7 +3,7 @@ use Rattle.std.proofs.Common.{◌≡◌, ℕ, ◌+◌, ◌-◌, ◌*◌, ◌/◌
 use Rattle.std.proofs.lemmas.Bool.{cond_both, ltb-false, ltb-true}
 use Rattle.port.specs.Lanes.{lanes_stored, stored}
 use Rattle.port.specs.declared.addresses.WordOffset.{WordOffset}
-use Rattle.port.proofs.Bytes.{lanes_low, lanes-moved, lanes-split}
+use Rattle.port.proofs.Bytes.{lanes_low, lanes_moved, lanes_split}
 use Rattle.adapters.specs.Above.{memory_with}
 use Rattle.adapters.specs.Cuts.{after_part, beat_slot, lanes_up, offset_below}
 use Rattle.adapters.specs.declared.cut.Cut.{Cut}
@@ -23,7 +23,7 @@ part_stored c o p m d n memory some =
     let one : 1 + (p - 1) ≡ p = omega arith in
     let all : w + (p - 1) * w ≡ p * w = ap (λ k. k + (p - 1) * w) (sym (one-mul w)) ∙ (sym (add-mul 1 (p - 1) w) ∙ ap (λ k. k * w) one) in
     ap (λ a. lanes_stored a (m / 2 ^ w) (d / 2 ^ (8 * w)) ((p - 1) * w) now-in) next
-    ∙ (sym (lanes-split (o.0 * w) m d w ((p - 1) * w) memory) ∙ ap (λ k. lanes_stored (o.0 * w) m d k memory) all))
+    ∙ (sym (lanes_split (o.0 * w) m d w ((p - 1) * w) memory) ∙ ap (λ k. lanes_stored (o.0 * w) m d k memory) all))
     (λ e.
     let last = ltb-false 1 p e in
     let one : p ≡ 1 = omega arith in
@@ -35,5 +35,5 @@ pub beat_counted : (c : Cut) (v h n m d : ℕ) (memory : List ℕ) → v * c.sha
     memory_with c (beat_slot c v h n m d) memory ≡ stored v h m d memory
 beat_counted c v h n m d memory widths kind some small =
     let w = c.width in
-    lanes-moved (offset_below c h * w) (lanes_up c v h) v (c.parts * w) m d memory (lanes_within c v h widths some) small
+    lanes_moved (offset_below c h * w) (lanes_up c v h) v (c.parts * w) m d memory (lanes_within c v h widths some) small
     ∙ ap (λ a. lanes_stored a m d v memory) (same_address c v h widths kind)

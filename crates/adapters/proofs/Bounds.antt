@@ -17,7 +17,7 @@ use Rattle.port.proofs.Bytes.{length_words_at}
 use Rattle.port.proofs.Kept.{silence_acted}
 use Rattle.port.proofs.Steps.{silence_more}
 use Rattle.port.proofs.Tally.{one_came_below}
-use Rattle.port.proofs.Waiting.{due-falls, due_none}
+use Rattle.port.proofs.Waiting.{due_falls, due_none}
 use Rattle.adapters.specs.Above.{owed_above, words_in_slot}
 use Rattle.adapters.specs.Cuts.{after_part, in_one_burst, next_part, offset_below, parts_due}
 use Rattle.adapters.specs.Engine.{slot_sent}
@@ -209,7 +209,7 @@ queue_falls n' σ y legal =
     let fewer : length (given y σ).reads ≤ length σ.reads = elim y as (λ o. length (given o σ).reads ≤ length σ.reads) [ None ↦ omega arith | Some x ↦ one_came_below σ.reads ] in
     elim (cases_lt (length σ.reads) n'.pending_limit) [
       | inl few ↦ (omega (arith, due_none n'.pending_limit n'.silence_bound (given y σ).silence (given y σ).reads (omega arith)), λ full. absurd (omega arith))
-      | inr full ↦ let h = due-falls n' σ y legal (omega arith) in (omega arith, λ _. h)
+      | inr full ↦ let h = due_falls n' σ y legal (omega arith) in (omega arith, λ _. h)
     ]
 
 -- the calls until the slot is empty never rise while no command is taken

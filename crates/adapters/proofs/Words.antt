@@ -2,7 +2,7 @@
 use Rattle.std.proofs.Common.{◌≡◌, ℕ, zero, suc, ◌+◌, ◌-◌, ◌*◌, ◌^◌, ◌<◌, ◌≤◌, Bool, true, false, cond, ◌⊎◌, List, [], ◌∷◌, ◌++◌, length, Some, None, sym, refl, ap, ◌∙◌, inl, inr, mul_comm, add-mul, one-mul, zero-mul, one-add, arith}
 use Rattle.std.proofs.lemmas.Bool.{cases_Bool, le-ltb, lt-ltb, ltb-false, ltb-true}
 use Rattle.port.specs.Lanes.{joined_bytes, word_at, words_at}
-use Rattle.port.proofs.Bytes.{joined-inside, joined-split, length_words_at, words_append}
+use Rattle.port.proofs.Bytes.{joined_inside, joined_split, length_words_at, words_append}
 use Rattle.adapters.specs.Cuts.{lanes_up, offset_below}
 use Rattle.adapters.specs.Owed.{counted, host_words, lanes_of, more_to_come, value_with, whole_with, word_up}
 use Rattle.adapters.specs.declared.cut.Cut.{Cut}
@@ -60,7 +60,7 @@ joined_more f o w i =
     let turn : 8 * (w * i) ≡ 8 * (i * w) = ap (λ k. 8 * k) (mul_comm w i) in
     let split : (i + 1) * w ≡ i * w + w = add-mul i 1 w ∙ ap (λ k. i * w + k) (one-mul w) in
     ap (λ k. joined_bytes f (o * w) (i * w) + k) (mul_comm (word_at w f (o + i)) (2 ^ (8 * (w * i))) ∙ (ap (λ k. 2 ^ k * word_at w f (o + i)) turn ∙ ap (λ a. 2 ^ (8 * (i * w)) * joined_bytes f a w) place))
-    ∙ (sym (joined-split f (o * w) (i * w) w) ∙ ap (λ k. joined_bytes f (o * w) k) (sym split))
+    ∙ (sym (joined_split f (o * w) (i * w) w) ∙ ap (λ k. joined_bytes f (o * w) k) (sym split))
 
 -- the last words below of a host word
 word_rest : (c : Cut) (v h o : ℕ) (f : ℕ → ℕ) (g : Collected) (r : ℕ) → g.count + suc r ≡ c.parts → g.value ≡ joined_bytes f (o * c.width) (g.count * c.width) →
@@ -90,7 +90,7 @@ one_word c v h f small widths kind some parts =
     let k : suc (c.parts - 1) ≡ c.parts = omega arith in
     let at : o + 0 ≡ o = omega arith in
     let whole = word_rest c v h o f none_yet (c.parts - 1) (omega arith) (sym (ap (λ k. joined_bytes f (o * w) k) (zero-mul w) ∙ joined_none f (o * w))) in
-    let inside = joined-inside f (o * w) (lanes_up c v h) v (c.parts * w) small (lanes_within c v h widths some) in
+    let inside = joined_inside f (o * w) (lanes_up c v h) v (c.parts * w) small (lanes_within c v h widths some) in
     ap (λ n. host_words c v (h ∷ []) none_yet (words_at w f o n)) (sym k)
     ∙ (ap (λ p. host_words c v (h ∷ []) none_yet (words_at w f p (suc (c.parts - 1)))) (sym at)
     ∙ (whole ∙ ap (λ y. y ∷ []) (inside ∙ ap (λ a. joined_bytes f a v) (same_address c v h widths kind))))

@@ -14,8 +14,8 @@ pub record Part (whole : Bor (List ℕ)) (from n : ℕ) (s : Stretch) : Type 0 w
   pub long : length s.bytes.now ≡ n
   pub placed : s.place ≡ from
   pub inside : from + n ≤ length whole.now
-  pub block : s.bytes.ptr.0 ≡ whole.ref_ptr.0
-  pub offset : s.bytes.ptr.1 ≡ whole.ref_ptr.1 + from
+  pub block : s.bytes.ref_ptr.0 ≡ whole.ref_ptr.0
+  pub offset : s.bytes.ref_ptr.1 ≡ whole.ref_ptr.1 + from
 
 -- a stretch is n bytes of another one, at a place of that
 pub record Piece (of : Stretch) (from n : ℕ) (s : Stretch) : Type 0 where
@@ -23,8 +23,8 @@ pub record Piece (of : Stretch) (from n : ℕ) (s : Stretch) : Type 0 where
   pub long : length s.bytes.now ≡ n
   pub placed : of.place + from < 2 ^ 64 → s.place ≡ of.place + from
   pub inside : from + n ≤ length of.bytes.now
-  pub block : s.bytes.ptr.0 ≡ of.bytes.ptr.0
-  pub offset : s.bytes.ptr.1 ≡ of.bytes.ptr.1 + from
+  pub block : s.bytes.ref_ptr.0 ≡ of.bytes.ref_ptr.0
+  pub offset : s.bytes.ref_ptr.1 ≡ of.bytes.ref_ptr.1 + from
 
 -- a section without a fault was read from a place on: its count, the part that its records are, and the place behind it
 pub record Passed (k : Section) (whole : Bor (List ℕ)) (from : ℕ) (r : Records) (to : ℕ) : Type 0 where

@@ -14,6 +14,7 @@ use Rattle.port.specs.declared.calls.Reply.{Reply}
 use Rattle.port.specs.declared.calls.Reply.TheVariants as reply
 use Rattle.port.specs.declared.numbers.Numbers.{Numbers}
 use Rattle.port.proofs.Bytes.{bytes_stored, length_lanes_stored, length_words_at, words_below}
+use Rattle.port.proofs.Steps.{burst_given}
 use Rattle.port.proofs.Tally.{one_came_below}
 use Rattle.port.proofs.Rules.{first_later, first_sooner, opening_fits, repeats_itself}
 
@@ -191,10 +192,6 @@ silence_acted w (Read o k) reply.Take σ = refl
 silence_acted w (Write o k m d) reply.Idle σ = refl
 silence_acted w (Write o k m d) reply.Wait σ = refl
 silence_acted w (Write o k m d) reply.Take σ = refl
-
-burst_given : (x : Option ℕ) (σ : State) → (given x σ).burst ≡ σ.burst
-burst_given None σ = refl
-burst_given (Some x) σ = refl
 
 pub moves_legal : (n : Numbers) (σ : State) (c : Command) (a : Reply) (x : Option ℕ) (τ : State) → Legal n σ → Clocks n σ c a x τ → Legal n τ
 moves_legal n σ c a x τ legal clocks =

@@ -6,7 +6,7 @@ use Rattle.std.proofs.lemmas.Bool.{cases_eq, cases_lt, cond_both, eq-eqb, ne_eqb
 use Rattle.port.specs.Book.{Event, after_calls, book, fed}
 use Rattle.port.specs.Lanes.{byte_in, enabled, lane, lanes_stored, stored, words_at}
 use Rattle.port.specs.Legal.{Legal}
-use Rattle.port.specs.Machine.{Answers, Clocks, First, Moves, acted, beat_offset, burst_after, command_rule, given, hold_rule, moved, refusal_in, silence_after}
+use Rattle.port.specs.Machine.{Answers, Clocks, First, Moves, acted, beat_offset, burst_after, command_rule, given, hold_rule, moved, refusal_in}
 use Rattle.port.specs.Refusals.{number_of}
 use Rattle.port.specs.Runs.{Beat, BringsNone, Judged, Lawful, Ran, Served, Silent, Untaken, asked, beat_of, beats_taken, byte_from, clock_in, clocked_in, covers, left_open, open_after, words_requested, words_returned, was_taken, takes, wait_in, waits_in, word_in}
 use Rattle.port.specs.State.{State, Within, reset}
@@ -22,12 +22,13 @@ use Rattle.port.specs.declared.numbers.Numbers.{Numbers}
 use Rattle.port.proofs.Bytes.{length_lanes_stored, stored_inside, stored_outside, words_agree}
 use Rattle.port.proofs.Kept.{read_fits, silence_acted}
 use Rattle.port.proofs.Rules.{first_later}
+use Rattle.port.proofs.Steps.{silence_more}
 use Rattle.port.proofs.Tally.{wide_some}
 
 -- Bytes ---------------------------------------------------------------------------
 
 -- which byte stands where after a beat
-store_byte : (w o m d : ℕ) (memory : List ℕ) (a : ℕ) → 1 ≤ w → a < length memory →
+pub store_byte : (w o m d : ℕ) (memory : List ℕ) (a : ℕ) → 1 ≤ w → a < length memory →
     byte_in (stored w o m d memory) a ≡ cond (covers w (record { at = o; lanes = m; content = d }) a) (lane d (a % w)) (byte_in memory a)
 store_byte w o m d memory a some fits =
     let split = div-add-mod' a w in
@@ -204,10 +205,6 @@ waits_book w image (e ∷ es) older none =
     let rest = waits_book w image es older none.1 in
     let step = waits_fed w e.call e.answer (book w image (es ++ older)) none.0 in
     omega arith
-
-silence_more : (owed : List ℕ) (s : ℕ) → 0 < length owed → silence_after owed s ≡ 1 + s
-silence_more [] s some = absurd (omega arith)
-silence_more (x ∷ owed) s some = omega arith
 
 silence_fed : (w : ℕ) (c : Command) (b : Answer) (σ : State) → BringsNone b σ.owed → (fed w σ c b).silence ≡ clock_in b + σ.silence
 silence_fed w c (Refused r) σ none = omega arith

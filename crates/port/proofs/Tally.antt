@@ -20,7 +20,7 @@ use Rattle.port.proofs.Bytes.{length_words_at}
 use Rattle.port.proofs.Rules.{first_later, first_sooner, opening_fits}
 
 -- at most P bursts of at most B words are owed
-total_below : (most : ℕ) (reads : List ℕ) → ReadsWithin most reads → total reads ≤ length reads * most
+pub total_below : (most : ℕ) (reads : List ℕ) → ReadsWithin most reads → total reads ≤ length reads * most
 total_below most [] r = omega arith
 total_below most (k ∷ later) r =
     let rest = total_below most later r.2 in

@@ -4,5 +4,6 @@ pub mod Lanes
 pub mod State
 pub mod Machine
 pub mod Legal
+pub mod Waiting
 pub mod Book
 pub mod Runs

@@ -1,10 +1,12 @@
 -- The number of each refusal.
 use Rattle.std.specs.Prelude.{◌≡◌, ℕ, Some, None, Option}
 use Rattle.port.specs.declared.calls.Refusal.{Refusal}
-use Rattle.port.specs.declared.calls.Refusal.TheVariants.{OutOfRange, Count, PastEnd, Misaligned, Lanes, ReadAndWrite, NoPlace, Held, InBurst}
+use Rattle.port.specs.declared.calls.Refusal.TheVariants.{OutOfRange, PortBelow, Bound, Count, PastEnd, Misaligned, Lanes, ReadAndWrite, NoPlace, Held, InBurst}
 
 abbrev pub number_of : Refusal → ℕ
 number_of OutOfRange = 2
+number_of PortBelow = 3
+number_of Bound = 4
 number_of Count = 5
 number_of PastEnd = 6
 number_of Misaligned = 7

@@ -35,6 +35,10 @@ pub enum Reply {
 pub enum Refusal {
     /// A number or a count is outside its range.
     OutOfRange,
+    /// The port below an adapter does not serve it: its burst limit is too small, or something is open, held or owed.
+    PortBelow,
+    /// A bound on waits or on silence would be above 100,000,000.
+    Bound,
     /// An opening count is 0 or above the burst limit.
     Count,
     /// An opening burst ends past the last word.

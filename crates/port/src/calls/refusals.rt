@@ -11,6 +11,8 @@ impl Refusal {
     {
         match self {
             Refusal::OutOfRange => 2,
+            Refusal::PortBelow => 3,
+            Refusal::Bound => 4,
             Refusal::Count => 5,
             Refusal::PastEnd => 6,
             Refusal::Misaligned => 7,

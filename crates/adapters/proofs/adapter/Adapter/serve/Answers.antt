@@ -19,12 +19,12 @@ next-part-part-requires g c =
 pub settle-requires : goal.settle-requires
 settle-requires g c =
     let x = c.args.self.now in
-    let sound = c.requires.0 in
+    let sound = c.requires.sound_over in
     let n' = x.engine.plain.numbers in
     let n = g.P.Port.fixed x.below in
     let σ = g.P.Port.state x.below in
     let legal = g.P.Port.legal x.below sound.under in
-    let free = first_later (hold_rule x.engine.plain.burst x.engine.plain.held c.args.command) (command_rule n' x.engine.plain.burst c.args.command) c.requires.1 in (
+    let free = first_later (hold_rule x.engine.plain.burst x.engine.plain.held c.args.command) (command_rule n' x.engine.plain.burst c.args.command) c.requires.command_value in (
       workable n σ x.engine legal sound.kept,
       (
         due n σ x.engine c.in-Clocked.word legal sound.kept c.in-Clocked.ensures.moves.first,
@@ -35,22 +35,22 @@ settle-requires g c =
 pub unreachable-requires : goal.unreachable-requires
 unreachable-requires g c =
     let x = c.args.self.now in
-    let sound = c.requires.0 in
+    let sound = c.requires.sound_over in
     let n = g.P.Port.fixed x.below in
     let σ = g.P.Port.state x.below in
     let k = sound.kept.0 in
     let free = part_free x.engine.cut n x.engine.plain.numbers x.engine.slot σ.burst x.engine.plain.burst σ.held k.fitted k.lined k.holding in
     let refused = c.in-Refused.ensures.moves.0 in
-    let here = ap (λ (p : Command). refusal_in n σ p) c.next-part-part.ensures in
+    let here = ap (λ (p : Command). refusal_in n σ p) c.next_part-part.ensures in
     let z : ◌≡◌ {A = ℕ} 0 1 = cc in
     omega arith
 
 pub returns : goal.returns
 returns g c =
     let x = c.args.self.now in
-    let sound = c.requires.0 in
+    let sound = c.requires.sound_over in
     let down = c.in-Clocked.ensures in
     let is : Adapter g.row.P.Denot g.row.W.Denot = record { below = c.clock.new.self; engine = c.settle.new.self; width = x.width } in
-    let left = served g.P.Port.sound g.P.Port.fixed g.P.Port.state g.P.Port.timing g.W.Width.wide x is c.args.command c.next-part-part.result c.in-Clocked.taken c.in-Clocked.word c.settle.result
-    (g.P.Port.legal x.below sound.under) sound c.requires.1 c.next-part-part.ensures down.sound down.fixed down.moves down.timing c.settle.ensures in
+    let left = served g.P.Port.sound g.P.Port.fixed g.P.Port.state g.P.Port.timing g.W.Width.wide x is c.args.command c.next_part-part.result c.in-Clocked.taken c.in-Clocked.word c.settle.result
+    (g.P.Port.legal x.below sound.under) sound c.requires.command_value c.next_part-part.ensures down.sound down.fixed down.moves down.timing c.settle.ensures in
     record { sound = left.sound; fixed = left.fixed; moves = left.moves; timing = left.timed }

@@ -3,8 +3,8 @@ use Rattle.adapters.proofs.adapter.build.widener.Goals as goal
 
 pub over-requires : goal.over-requires
 over-requires g c =
-    let x = c.args.below in (
-      c.requires,
-      wide_suits (g.P.Port.fixed x) (g.P.Port.state x) c.status.result g.W.Width.wide c.width.result c.args.burst-limit c.args.pending-limit c.in-Ok.cut
-          (g.P.Port.legal x c.requires).ranges g.met.W.Width.widths c.status.ensures c.width.ensures c.in-Ok.ensures.0 c.in-Ok.ensures.1,
-    )
+    let x = c.args.below in (record {
+      sound = c.requires;
+      suited = wide_suits (g.P.Port.fixed x) (g.P.Port.state x) c.status.result g.W.Width.wide c.width.result c.args.burst_limit c.args.pending_limit c.in-Ok.cut
+          (g.P.Port.legal x c.requires).ranges g.met.W.Width.widths c.status.ensures c.width.ensures c.in-Ok.ensures.0 c.in-Ok.ensures.1;
+    })

@@ -22,7 +22,7 @@ pub returns-else-left-gt1 : goal.returns-else-left-gt1
 returns-else-left-gt1 c =
     let q = c.args.self.now in
     record {
-      has = ap (λ bs. take (q.count - 1) bs) c.rotate-left.ensures.after ∙ first_gone q.count q.bursts (record { next = record { 0 = 0 }; left = 0 }) (omega arith) (omega arith) (omega arith);
-      fits = (c.rotate-left.ensures.len ∙ c.requires.0, omega arith);
+      has = ap (λ bs. take (q.count - 1) bs) c.rotate_left.ensures.after ∙ first_gone q.count q.bursts (record { next = record { 0 = 0 }; left = 0 }) (omega arith) (omega arith) (omega arith);
+      fits = (c.rotate_left.ensures.len ∙ c.requires.0, omega arith);
       told = λ x. lefts_last q.count q.bursts (record { next = record { 0 = 0 }; left = 0 }) (omega arith) (omega arith) (omega arith);
     }

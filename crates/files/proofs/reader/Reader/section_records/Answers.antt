@@ -5,10 +5,10 @@ use Rattle.files.proofs.Walks.{records_stop, records_go}
 use Rattle.files.proofs.reader.Reader.section_records.Goals as goal
 
 -- src/reader/steps.rt:117:13
-pub returns-in-err-section-record : goal.returns-in-err-section-record
-returns-in-err-section-record c =
-    let p = err_from_is_err_and c.from-residual.result c.from-residual.ensures.1 in
-    let stop = records_stop _ _ _ _ c.loop-i.i c.args.count _ c.loop-i-test.true c.in-err-section-record.ensures.judged in
+pub returns-in_err-section_record : goal.returns-in_err-section_record
+returns-in_err-section_record c =
+    let p = err_from_is_err_and c.from_residual.result c.from_residual.ensures.1 in
+    let stop = records_stop _ _ _ _ c.loop-i.i c.args.count _ c.loop-i-test.true c.in_err-section_record.ensures.judged in
     record { same = search rules; judged = rw (p.1, p.2) (sym c.loop-i.invariant.2 ∙ stop) }
 
 -- src/reader/steps.rt:116:9
