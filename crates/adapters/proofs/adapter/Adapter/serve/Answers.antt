@@ -9,10 +9,10 @@ use Rattle.adapters.proofs.Ready.{due, loadable, workable}
 use Rattle.adapters.proofs.Serve.{served}
 use Rattle.adapters.proofs.adapter.Adapter.serve.Goals as goal
 
-pub next-part-part-requires : goal.next-part-part-requires
-next-part-part-requires g c =
+pub next_part-part-requires : goal.next_part-part-requires
+next_part-part-requires g c =
     let x = c.args.self.now in
-    let sound = c.requires.0 in
+    let sound = c.requires.sound_over in
     let able = workable (g.P.Port.fixed x.below) (g.P.Port.state x.below) x.engine (g.P.Port.legal x.below sound.under) sound.kept in
     (able.cuttable, able.placed)
 

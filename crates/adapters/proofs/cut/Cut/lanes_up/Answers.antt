@@ -3,8 +3,8 @@ use Rattle.std.proofs.lemmas.Nat.{mod_below}
 use Rattle.adapters.proofs.Rows.{row_fits}
 use Rattle.adapters.proofs.cut.Cut.lanes_up.Goals as goal
 
-pub overflow-mul-result : goal.overflow-mul-result
-overflow-mul-result c =
+pub overflow_mul-result : goal.overflow_mul-result
+overflow_mul-result c =
     let f = c.args.self.share in
     let h = c.args.host.0 in
     let fits = row_fits (h % f) f c.args.width (mod_below h f (omega arith)) in

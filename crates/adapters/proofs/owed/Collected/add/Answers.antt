@@ -2,16 +2,16 @@ use Rattle.std.proofs.Common.{◌+◌, ◌*◌, ◌≤◌, mul_comm, add-mul, ar
 use Rattle.adapters.proofs.Rows.{below_eight, value_fits, word_moved}
 use Rattle.adapters.proofs.owed.Collected.add.Goals as goal
 
-pub move-up-requires : goal.move-up-requires
-move-up-requires c =
+pub move_up-requires : goal.move_up-requires
+move_up-requires c =
     let l = c.args.cut.width * c.args.self.now.count in
-    (omega arith, word_moved c.args.part c.args.cut.width l c.requires.1.1 (omega arith))
+    (omega arith, word_moved c.args.part c.args.cut.width l c.requires.value_bound.1 (omega arith))
 
-pub overflow-add-value : goal.overflow-add-value
-overflow-add-value c =
+pub overflow_add-value : goal.overflow_add-value
+overflow_add-value c =
     let w = c.args.cut.width in
     let g = c.args.self.now.count in
-    let fits = value_fits c.args.self.now.value c.args.part w g c.requires.1.0 c.requires.1.1 in
+    let fits = value_fits c.args.self.now.value c.args.part w g c.requires.value_bound.0 c.requires.value_bound.1 in
     let few : w * (g + 1) ≤ 8 = omega (arith, mul_comm w (g + 1), add-mul g 1 w, mul_comm w g) in
     let all = below_eight _ (w * (g + 1)) fits few in
     omega arith

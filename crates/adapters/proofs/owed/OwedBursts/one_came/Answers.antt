@@ -3,8 +3,8 @@ use Rattle.std.proofs.lemmas.List.{length-set}
 use Rattle.adapters.proofs.Bursts.{first_gone, first_less, lefts_last, lefts_more, next_first}
 use Rattle.adapters.proofs.owed.OwedBursts.one_came.Goals as goal
 
-pub overflow-add-self : goal.overflow-add-self
-overflow-add-self c =
+pub overflow_add-self : goal.overflow_add-self
+overflow_add-self c =
     let q = c.args.self.now in
     let first = next_first q.count q.bursts (record { next = record { 0 = 0 }; left = 0 }) (omega arith) (omega arith) in
     omega arith

@@ -18,5 +18,5 @@ pub returns-in-Err : goal.returns-in-Err
 returns-in-Err g c =
     let built = c.in_ok-pile.ensures in
     let ran = c.in-Err.ensures.ran in
-    let same = c.into_below-in-Err-2.ensures ∙ (ap (λ x. x.below) c.into_below-in-Err.ensures ∙ (ap (λ x. x.below.below) c.into-below.ensures ∙ (ap (λ x. x.below.below.below) ran.2 ∙ built.4))) in
+    let same = c.into_below-in-Err-2.ensures ∙ (ap (λ x. x.below) c.into_below-in-Err.ensures ∙ (ap (λ x. x.below.below) c.into_below.ensures ∙ (ap (λ x. x.below.below.below) ran.2 ∙ built.4))) in
     (too_few _ (length c.args.answers.now) (length c.args.calls.now) (number_of c.in-Err.refusal) built.0 ran.1 ran.0, same, ran.3)

@@ -7,14 +7,14 @@ use Rattle.tools.proofs.piles.build.play_session.Goals as goal
 pub returns : goal.returns
 returns c =
     let s = c.args.session.now in
-    let bs = c.play-pile.new.answers in
-    let places = c.in-ok-bytes.ensures in
-    let long = c.play-pile.auto.answers ∙ c.deref-mut-4.ensures.len in
-    let same = take_at bs (drop (length bs) c.in-ok-bytes.field-0.answers.items) c.in-ok-bytes.field-0.answers.len long in
-    let bytes = c.deref-mut.ensures.value ∙ places.bytes in
+    let bs = c.play_pile.new.answers in
+    let places = c.in_ok-bytes.ensures in
+    let long = c.play_pile.auto.answers ∙ c.deref_mut-4.ensures.len in
+    let same = take_at bs (drop (length bs) c.in_ok-bytes.field-0.answers.items) c.in_ok-bytes.field-0.answers.len long in
+    let bytes = c.deref_mut.ensures.value ∙ places.bytes in
     let law = subst (λ (image : List ℕ). Plays (numbers_over s.pile (length image) s.waits.bytes.now s.gaps.bytes.now) image s.commands.bytes.now bs c.in-Ok.summary) bytes c.in-Ok.ensures.0 in
     record {
       pile = refl;
       plays = rw same law;
-      all = ap length same ∙ c.play-pile.auto.answers ∙ ap length c.deref-mut-4.ensures.value ∙ places.answers;
+      all = ap length same ∙ c.play_pile.auto.answers ∙ ap length c.deref_mut-4.ensures.value ∙ places.answers;
     }
