@@ -1,5 +1,6 @@
 //! The player: reads a session from standard input and prints what its pile answered, call by call.
 #![tactic(auto)]
+
 use std::io;
 use std::io::Read;
 use tools::lines::{CallLine, EndLine, HeadLine};

@@ -44,7 +44,7 @@ fn good_file(rt: HostRuntime) -> Result<(), Fail> {
     assert!(rt;
         session.pile.pile == 2 && session.pile.burst_limit == 64 && session.pile.pending_limit == 16
     );
-    assert!(rt; session.waits.bytes == &[5, 6] && session.gaps.bytes == &[7]);
+    assert!(rt; session.waits.bytes == [5, 6].as_slice() && session.gaps.bytes == [7].as_slice());
     assert!(rt; session.memory.place == 16 && session.memory.bytes.len() == 8);
     assert!(rt; session.command_count() == 3 && session.commands.place == 26);
     let Some(SessionRecord::Command(found)) = session.command(0) else {

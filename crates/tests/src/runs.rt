@@ -7,14 +7,14 @@ use port::width::{W1, W2, W8};
 use std::process::Abort;
 use std::test::Fail;
 
-fn read(offset: u32, count: u16) -> Command {
+pub(crate) fn read(offset: u32, count: u16) -> Command {
     Command::Read {
         offset: WordOffset(offset),
         count,
     }
 }
 
-fn write(offset: u32, count: u16, mask: u8, word: Word) -> Command {
+pub(crate) fn write(offset: u32, count: u16, mask: u8, word: Word) -> Command {
     Command::Write {
         offset: WordOffset(offset),
         count,
@@ -41,7 +41,7 @@ macro_rules! run_over {
 /// The bytes 0 to 15.
 const BYTES: [u8; 16] = *b"\x00\x01\x02\x03\x04\x05\x06\x07\x08\x09\x0a\x0b\x0c\x0d\x0e\x0f";
 
-fn same(rt: &impl Abort, answers: &[Answer], expected: &[Answer]) -> Result<(), Fail> {
+pub(crate) fn same(rt: &impl Abort, answers: &[Answer], expected: &[Answer]) -> Result<(), Fail> {
     assert_eq!(rt; answers.len(), expected.len());
     for (answer, wanted) in answers.iter().zip(expected.iter()) {
         assert_eq!(rt; *answer, *wanted);
@@ -49,7 +49,7 @@ fn same(rt: &impl Abort, answers: &[Answer], expected: &[Answer]) -> Result<(), 
     Ok(())
 }
 
-const BLANK: Answer = Answer::Refused(Refusal::OutOfRange);
+pub(crate) const BLANK: Answer = Answer::Refused(Refusal::OutOfRange);
 
 #[test]
 fn refuses_in_order(rt: HostRuntime) -> Result<(), Fail> {
