@@ -1,5 +1,5 @@
 -- Where a host word stands below.
-use Rattle.std.proofs.Common.{◌≡◌, ℕ, ◌+◌, ◌-◌, ◌*◌, ◌/◌, ◌%◌, ◌≤◌, ◌⊎◌, sym, ap, ◌∙◌, inl, inr, mul_assoc, mul_comm, add-mul, zero-mul, mul-one, div-one, arith}
+use Rattle.std.proofs.Common.{◌≡◌, ℕ, ◌+◌, ◌*◌, ◌/◌, ◌%◌, ◌≤◌, ◌⊎◌, sym, ap, ◌∙◌, inl, inr, mul_assoc, mul_comm, add-mul, zero-mul, mul-one, div-one, arith}
 use native.Mathlib.Nat.{mod-one}
 use Rattle.std.proofs.lemmas.Nat.{div-add-mod', mod_below}
 use Rattle.adapters.specs.Cuts.{lanes_up, offset_below}

@@ -1,5 +1,5 @@
 -- Sums and products in the code of an adapter stay small.
-use Rattle.std.proofs.Common.{◌≡◌, ℕ, ◌+◌, ◌-◌, ◌*◌, ◌^◌, ◌<◌, ◌≤◌, ap, ◌∙◌, mul_comm, add-mul, one-mul, arith, pow_mono}
+use Rattle.std.proofs.Common.{◌≡◌, ℕ, ◌+◌, ◌*◌, ◌^◌, ◌<◌, ◌≤◌, ap, ◌∙◌, mul_comm, add-mul, one-mul, arith, pow_mono}
 use Rattle.std.proofs.lemmas.Nat.{mul-le, pow-add, shl_below}
 
 -- a row with its last place is below the end of all rows

@@ -1,5 +1,5 @@
 -- One call below, and one call above: what an adapter keeps, it keeps, and its state moves as the port machine does.
-use Rattle.std.proofs.Common.{◌≡◌, ℕ, ◌+◌, ◌-◌, ◌*◌, ◌^◌, ◌<◌, ◌≤◌, List, ◌++◌, length, get_or, Some, None, Option, sym, refl, ap, ◌∙◌, subst, mul_comm, zero-mul, arith}
+use Rattle.std.proofs.Common.{◌≡◌, ℕ, ◌+◌, ◌*◌, ◌^◌, ◌<◌, ◌≤◌, List, ◌++◌, length, get_or, Some, None, Option, sym, refl, ap, ◌∙◌, subst, mul_comm, zero-mul, arith}
 use Rattle.port.specs.Lanes.{byte_in}
 use Rattle.port.specs.Legal.{Legal, tally}
 use Rattle.port.specs.Machine.{Answers, Clocks, First, acted, command_rule, given, hold_rule, moved, refusal_in}
@@ -8,7 +8,6 @@ use Rattle.port.specs.State.{State, Within}
 use Rattle.port.specs.Waiting.{calls_due}
 use Rattle.port.specs.declared.calls.Command.{Command}
 use Rattle.port.specs.declared.calls.Reply.{Reply}
-use Rattle.port.specs.declared.calls.Reply.TheVariants as reply
 use Rattle.port.specs.declared.numbers.Numbers.{Numbers}
 use Rattle.port.specs.declared.record.PortRecord.{PortRecord}
 use Rattle.port.proofs.Kept.{moves_legal, silence_acted}
@@ -28,7 +27,7 @@ use Rattle.adapters.proofs.Bounds.{Hushed, hushed_on, queue_falls, silence_next,
 use Rattle.adapters.proofs.Coming.{after_first, after_given, less_reads, less_within, word_few, word_first, word_fits, word_grouped, word_queued, word_rest}
 use Rattle.adapters.proofs.Lined.{lined_sent}
 use Rattle.adapters.proofs.Parts.{asked_now, grouped_sent, memory_sent, owed_sent, queued_sent}
-use Rattle.adapters.proofs.Replies.{Falls, Into, Why, fill_holding, fill_lined, fill_memory, fill_owed, fill_patient, fill_queued, fill_reads, fill_within, held_sent, in_kind, into, mask_fits, pending_within, waits_within, write_fits}
+use Rattle.adapters.proofs.Replies.{Falls, Into, Why, fill_holding, fill_lined, fill_memory, fill_owed, fill_patient, fill_queued, fill_reads, fill_within, held_sent, into, mask_fits, pending_within, waits_within, write_fits}
 
 -- the facts of a call
 pub record Step (n : Numbers) (σ : State) (c : Cut) (s : Slot) (bs : List OwedBurst) (g : Collected) (p : PortRecord) (command : Command) (taken : Reply) (x : Option ℕ) (a : Reply) (y : Option ℕ) : Type 0 where

@@ -1,5 +1,5 @@
 -- The rules of parts, kind by kind: what `parts_of` gives for every read and every opening beat.
-use Rattle.std.specs.Prelude.{◌≡◌, ℕ, zero, suc, ◌+◌, ◌-◌, ◌*◌, ◌/◌, ◌%◌, ◌^◌, ◌<◌, ◌≤◌, List, [], ◌∷◌, ◌++◌}
+use Rattle.std.specs.Prelude.{◌≡◌, ℕ, zero, suc, ◌+◌, ◌*◌, ◌/◌, ◌%◌, ◌^◌, ◌<◌, ◌≤◌, List, [], ◌∷◌, ◌++◌}
 use Rattle.adapters.specs.Building.{narrow_cut, narrow_parts, split_cut, wide_cut, wide_share}
 use Rattle.adapters.specs.Cuts.{in_one_burst, parts_of}
 use Rattle.port.specs.declared.calls.Command.{Command}

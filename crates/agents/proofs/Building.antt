@@ -1,5 +1,5 @@
 -- A memory that was built keeps what every scripted memory keeps.
-use Rattle.std.proofs.Common.{◌≡◌, ℕ, ◌+◌, ◌-◌, ◌*◌, ◌/◌, ◌%◌, ◌<◌, ◌≤◌, List, [], map, length, sym, refl, ap, ◌∙◌, subst, ⊎_elim, arith, pow_pos}
+use Rattle.std.proofs.Common.{◌≡◌, ℕ, ◌+◌, ◌*◌, ◌/◌, ◌%◌, ◌<◌, ◌≤◌, List, [], map, length, sym, refl, ap, ◌∙◌, subst, ⊎_elim, arith, pow_pos}
 use Rattle.agents.proofs.Patience.{due_below}
 use Rattle.agents.proofs.Served.{same_state, with_plain}
 use Rattle.agents.specs.Building.{Buildable, Built, numbers_of}

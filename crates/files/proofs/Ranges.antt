@@ -1,15 +1,15 @@
 -- The numbers of sections without a fault are in their ranges.
-use Rattle.std.proofs.Common.{◌≡◌, ℕ, zero, suc, ◌+◌, ◌*◌, ◌%◌, ◌<◌, ◌≤◌, Bool, true, false, ◌&&◌, eqb, leb, List, length, get_or, take, drop, Some, None, Option, sym, refl, ap, ◌∙◌, subst, suc-mul, zero-mul, arith, Bor, rules}
+use Rattle.std.proofs.Common.{◌≡◌, ℕ, zero, suc, ◌+◌, ◌*◌, ◌%◌, ◌<◌, ◌≤◌, true, ◌&&◌, eqb, leb, List, length, get_or, drop, Some, None, Option, sym, refl, ap, ◌∙◌, subst, suc-mul, zero-mul, arith, Bor, rules}
 use Rattle.std.proofs.lemmas.List.{get_or-drop, get_or-take}
 use Rattle.files.specs.declared.records.PileFields.{PileFields}
 use Rattle.files.specs.declared.records.Records.{Records}
 use Rattle.files.specs.declared.section.Section.{Section}
-use Rattle.files.specs.declared.section.Section.TheVariants.{Pile, Adapters, Waits, Gaps, Memory, Commands}
+use Rattle.files.specs.declared.section.Section.TheVariants.{Pile, Commands}
 use Rattle.files.specs.Bytes.{bytes_at}
 use Rattle.files.specs.Faults.{records_fault}
 use Rattle.files.specs.Fields.{pile_in}
 use Rattle.files.specs.Parts.{Passed}
-use Rattle.files.specs.Sections.{adapters_in, allowed, from_to, bytes_each, command_wrong, pile_wrong, ranged, same_number, unless_pile, wrong_in}
+use Rattle.files.specs.Sections.{allowed, from_to, bytes_each, command_wrong, pile_wrong, same_number, unless_pile, wrong_in}
 use Rattle.files.proofs.Grammar.{both_none, count_sound, record_sound}
 
 -- the count of a section that was read is one that it allows

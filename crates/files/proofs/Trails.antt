@@ -1,17 +1,15 @@
 -- The way of a reader through a session file, section by section.
-use Rattle.std.proofs.Common.{◌≡◌, ℕ, zero, suc, ◌+◌, ◌-◌, ◌*◌, ◌<◌, ◌≤◌, Bool, true, false, cond, List, [], ◌∷◌, ◌++◌, length, get_or, take, drop, Some, None, Option, sym, refl, ap, ◌∙◌, subst, arith, Bor, rules}
-use Rattle.std.proofs.lemmas.List.{get_or-drop, get_or-take, drop_all, same_lists}
+use Rattle.std.proofs.Common.{◌≡◌, ℕ, ◌+◌, ◌*◌, ◌<◌, List, [], ◌∷◌, length, get_or, drop, Some, None, Option, sym, refl, ap, ◌∙◌, subst, arith, Bor, rules}
+use Rattle.std.proofs.lemmas.List.{get_or-drop, get_or-take, drop_all}
 use Rattle.files.specs.declared.faults.Fault.{Fault}
 use Rattle.files.specs.declared.faults.FileFault.TheVariants.{Broken}
 use Rattle.files.specs.declared.records.PileFields.{PileFields}
 use Rattle.files.specs.declared.records.Records.{Records}
-use Rattle.files.specs.declared.records.Stretch.{Stretch}
 use Rattle.files.specs.declared.section.Section.{Section}
-use Rattle.files.specs.declared.session.Session.{Session}
 use Rattle.files.specs.declared.section.Section.TheVariants.{Pile, Adapters, Waits, Gaps, Memory, Commands}
 use Rattle.files.specs.Bytes.{bytes_at}
 use Rattle.files.specs.Faults.{count_at, section_fault, sections_fault, rest_fault, after_pile, first_fault, fault_at, behind, or_else}
-use Rattle.files.specs.Forms.{Contents, SectionOf, SectionsOf, WellFormed}
+use Rattle.files.specs.Forms.{SectionsOf}
 use Rattle.files.specs.Parts.{Part, Passed}
 use Rattle.files.specs.Fields.{pile_in}
 use Rattle.files.specs.Sections.{adapters_in, bytes_each}

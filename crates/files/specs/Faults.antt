@@ -1,5 +1,5 @@
 -- The first fault of a file, looked for in the order of the file: section by section, the count before its records, record by record.
-use Rattle.std.specs.Prelude.{ℕ, zero, suc, ◌+◌, ◌*◌, Bool, true, false, cond, List, [], ◌∷◌, length, Some, None, Option, nat_lt, slice_index}
+use Rattle.std.specs.Prelude.{ℕ, zero, suc, ◌+◌, ◌*◌, cond, List, [], ◌∷◌, length, Some, None, Option, nat_lt, slice_index}
 use Rattle.files.specs.declared.faults.FileFault.{FileFault}
 use Rattle.files.specs.declared.faults.FileFault.TheVariants.{Broken, OutOfRange}
 use Rattle.files.specs.declared.faults.Fault.{Fault}

@@ -1,5 +1,5 @@
 -- WellFormed files: sections one after the other, each a count and then so many good records, and nothing left over.
-use Rattle.std.specs.Prelude.{◌≡◌, ℕ, zero, suc, ◌+◌, ◌*◌, true, List, [], ◌∷◌, ◌++◌, length, Some, None}
+use Rattle.std.specs.Prelude.{◌≡◌, ℕ, zero, suc, ◌+◌, ◌*◌, true, List, [], ◌∷◌, ◌++◌, length, None}
 use Rattle.files.specs.declared.section.Section.{Section}
 use Rattle.files.specs.declared.section.Section.TheVariants.{Pile}
 use Rattle.files.specs.Faults.{after_pile}

@@ -1,5 +1,5 @@
 -- The six sections of a session file: their numbers, the sizes of their records, the counts and the records that they allow.
-use Rattle.std.specs.Prelude.{ℕ, ◌%◌, Bool, true, false, cond, ◌&&◌, List, length, is_some, Some, None, Option, ◌==◌, nat_le}
+use Rattle.std.specs.Prelude.{ℕ, ◌%◌, Bool, false, cond, ◌&&◌, List, is_some, Some, None, Option, ◌==◌, nat_le}
 use Rattle.files.specs.declared.faults.FileFault.{FileFault}
 use Rattle.files.specs.declared.faults.FileFault.TheVariants.{Broken, OutOfRange}
 use Rattle.files.specs.declared.records.Stretch.{Stretch}

@@ -1,10 +1,10 @@
 -- A clocked call leaves a legal state legal.
-use Rattle.std.proofs.Common.{◌≡◌, ℕ, zero, suc, ◌+◌, ◌-◌, ◌*◌, ◌^◌, ◌<◌, ◌≤◌, Bool, true, false, cond, ltb, List, [], ◌∷◌, ◌++◌, length, get_or, drop, Some, None, Option, sym, refl, ap, ◌∙◌, subst, arith, pow_pos}
+use Rattle.std.proofs.Common.{◌≡◌, ℕ, zero, suc, ◌+◌, ◌*◌, ◌^◌, ◌<◌, ◌≤◌, ltb, List, [], ◌∷◌, ◌++◌, length, get_or, drop, Some, None, Option, sym, refl, ◌∙◌, subst, arith}
 use Rattle.std.proofs.lemmas.List.{get_or-drop, length-append, length-drop}
 use Rattle.std.proofs.lemmas.Bool.{cond_both, ltb-false, ltb-true}
-use Rattle.port.specs.Lanes.{byte_in, words_at}
+use Rattle.port.specs.Lanes.{byte_in}
 use Rattle.port.specs.Legal.{HeldLegal, Legal, OpenWithin, ReadsWithin, total}
-use Rattle.port.specs.Machine.{Answers, Clocks, First, acted, beat_offset, burst_after, command_rule, first_of, given, hold_rule, lanes_rule, moved, one_came, opening_rule, read_words, refusal_in, refusal_by, rest_of_burst, silence_after}
+use Rattle.port.specs.Machine.{Answers, Clocks, First, acted, beat_offset, burst_after, command_rule, given, hold_rule, lanes_rule, moved, one_came, opening_rule, read_words, rest_of_burst, silence_after}
 use Rattle.port.specs.State.{State, Within}
 use Rattle.port.specs.declared.addresses.WordOffset.{WordOffset}
 use Rattle.port.specs.declared.calls.Command.{Command}

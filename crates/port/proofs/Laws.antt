@@ -1,16 +1,14 @@
 -- The law over lists of calls, from the port machine's moves.
-use Rattle.std.proofs.Common.{◌≡◌, ℕ, zero, suc, ◌+◌, ◌-◌, ◌*◌, ◌/◌, ◌%◌, ◌^◌, ◌<◌, ◌≤◌, Bool, true, false, cond, ◌&&◌, eqb, ◌⊎◌, List, [], ◌∷◌, ◌++◌, length, get_or, take, drop, set, Some, None, Option, sym, refl, ap, ◌∙◌, subst, inl, inr, add-mul, arith}
+use Rattle.std.proofs.Common.{◌≡◌, ℕ, ◌+◌, ◌-◌, ◌*◌, ◌/◌, ◌%◌, ◌<◌, ◌≤◌, Bool, true, false, cond, ◌⊎◌, List, [], ◌∷◌, ◌++◌, length, get_or, take, drop, set, Some, None, Option, sym, refl, ap, ◌∙◌, subst, inl, inr, add-mul, arith}
 use Rattle.std.proofs.lemmas.Nat.{div-add-mod', div-mul-add, mod_below, mul-le}
 use Rattle.std.proofs.lemmas.List.{append_assoc, append-nil, length-take-le, take_all, take_more, take_more_set}
-use Rattle.std.proofs.lemmas.Bool.{cases_eq, cases_lt, cond_both, eq-eqb, ne_eqb}
+use Rattle.std.proofs.lemmas.Bool.{cases_eq, cases_lt, eq-eqb, ne_eqb}
 use Rattle.port.specs.Book.{Event, after_calls, book, fed}
-use Rattle.port.specs.Lanes.{byte_in, enabled, lane, lanes_stored, stored, words_at}
+use Rattle.port.specs.Lanes.{byte_in, enabled, lane, lanes_stored, stored}
 use Rattle.port.specs.Legal.{Legal}
-use Rattle.port.specs.Machine.{Answers, Clocks, First, Moves, acted, beat_offset, burst_after, command_rule, given, hold_rule, moved, refusal_in}
-use Rattle.port.specs.Refusals.{number_of}
+use Rattle.port.specs.Machine.{First, Moves, acted, beat_offset, command_rule, given, hold_rule, moved}
 use Rattle.port.specs.Runs.{Beat, BringsNone, Judged, Lawful, Ran, Served, Silent, Untaken, asked, beat_of, beats_taken, byte_from, clock_in, clocked_in, covers, left_open, open_after, words_requested, words_returned, was_taken, takes, wait_in, waits_in, word_in}
-use Rattle.port.specs.State.{State, Within, reset}
-use Rattle.port.specs.declared.addresses.WordOffset.{WordOffset}
+use Rattle.port.specs.State.{State, Within}
 use Rattle.port.specs.declared.calls.Answer.{Answer}
 use Rattle.port.specs.declared.calls.Answer.TheVariants.{Refused, Clocked}
 use Rattle.port.specs.declared.calls.Command.{Command}

@@ -1,11 +1,11 @@
 -- The plain record of a legal state stays far below the largest numbers, and moves with the state.
-use Rattle.std.proofs.Common.{◌≡◌, ℕ, zero, suc, ◌+◌, ◌-◌, ◌*◌, ◌<◌, ◌≤◌, Bool, true, false, cond, ltb, ◌⊎◌, List, [], ◌∷◌, ◌++◌, length, drop, Some, None, Option, sym, refl, ap, ◌∙◌, subst, inl, inr, add-mul, one-mul, add-one, arith, length-drop}
+use Rattle.std.proofs.Common.{◌≡◌, ℕ, suc, ◌+◌, ◌*◌, ◌≤◌, ltb, List, [], ◌∷◌, ◌++◌, length, Some, None, Option, sym, ap, ◌∙◌, inl, inr, add-mul, one-mul, add-one, arith, length-drop}
 use Rattle.std.proofs.lemmas.Nat.{mul-le}
 use Rattle.std.proofs.lemmas.List.{length-append, length_push}
 use Rattle.std.proofs.lemmas.Bool.{cond_both}
 use Rattle.port.specs.Lanes.{byte_in}
 use Rattle.port.specs.Legal.{Legal, OpenWithin, ReadsWithin, WithinReach, tally, total}
-use Rattle.port.specs.Machine.{acted, command_rule, given, hold_rule, lanes_rule, moved, one_came, opening_rule, read_words, refusal_in}
+use Rattle.port.specs.Machine.{acted, command_rule, given, hold_rule, lanes_rule, one_came, opening_rule, read_words, refusal_in}
 use Rattle.port.specs.State.{Ranges, State}
 use Rattle.port.specs.Widths.{Wide}
 use Rattle.port.specs.declared.addresses.WordOffset.{WordOffset}

@@ -1,5 +1,5 @@
 -- The port machine: when a call is refused, how a clocked call moves the state, and which moves a port may show.
-use Rattle.std.specs.Prelude.{◌≡◌, ℕ, ◌+◌, ◌-◌, ◌*◌, ◌^◌, ◌<◌, ◌≤◌, Bool, true, false, cond, ◌&&◌, List, [], ◌∷◌, ◌++◌, length, drop, Some, None, Option, ◌==◌, nat_le, nat_lt}
+use Rattle.std.specs.Prelude.{◌≡◌, ℕ, ◌+◌, ◌-◌, ◌*◌, ◌^◌, Bool, true, false, cond, ◌&&◌, List, [], ◌∷◌, ◌++◌, drop, Some, None, Option, ◌==◌, nat_le, nat_lt}
 use Rattle.port.specs.Lanes.{byte_in, words_at, stored}
 use Rattle.port.specs.Refusals.{number_of}
 use Rattle.port.specs.State.{State, Within}

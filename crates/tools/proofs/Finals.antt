@@ -1,5 +1,5 @@
 -- What a session's run on a port at reset comes to.
-use Rattle.std.proofs.Common.{◌≡◌, ℕ, List, [], length, take, sym, refl, ap, ◌∙◌, subst}
+use Rattle.std.proofs.Common.{◌≡◌, ℕ, List, [], length, take, sym, ap, ◌∙◌}
 use Rattle.port.specs.Book.{book}
 use Rattle.port.specs.Legal.{tally}
 use Rattle.port.specs.Runs.{Served}

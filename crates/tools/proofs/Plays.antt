@@ -1,21 +1,21 @@
 -- How the rules of a session's command fit together.
-use Rattle.std.proofs.Common.{◌≡◌, ℕ, ◌≤◌, Bool, true, false, cond, not, ◌&&◌, eqb, leb, Some, None, Ok, Err, Option, sym, refl, ap, ◌∙◌, subst, arith}
+use Rattle.std.proofs.Common.{◌≡◌, ℕ, ◌≤◌, true, false, not, ◌&&◌, Some, None, Ok, Option, sym, refl, ap, subst, arith}
 use Rattle.std.proofs.lemmas.Bool.{and_right, eq-eqb, lt-leb, ne_eqb}
 use Rattle.port.specs.Legal.{tally}
-use Rattle.port.specs.Machine.{Clocks, Moves, broken, first_of, refusal_in, refusal_by}
-use Rattle.port.specs.Refusals.{Numbered, number_of}
+use Rattle.port.specs.Machine.{Clocks, Moves, refusal_in, refusal_by}
+use Rattle.port.specs.Refusals.{number_of}
 use Rattle.port.specs.State.{State}
 use Rattle.port.specs.declared.addresses.WordOffset.{WordOffset}
 use Rattle.port.specs.declared.calls.Answer.{Answer}
 use Rattle.port.specs.declared.calls.Answer.TheVariants.{Refused, Clocked}
 use Rattle.port.specs.declared.calls.Command.{Command}
-use Rattle.port.specs.declared.calls.Command.TheVariants.{Idle, Read, Write}
+use Rattle.port.specs.declared.calls.Command.TheVariants.{Read, Write}
 use Rattle.port.specs.declared.calls.OpenBurst.{OpenBurst}
 use Rattle.port.specs.declared.calls.Refusal.{Refusal}
 use Rattle.port.specs.declared.calls.Refusal.TheVariants.{Lanes}
 use Rattle.port.specs.declared.numbers.Numbers.{Numbers}
 use Rattle.port.specs.declared.record.PortRecord.{PortRecord}
-use Rattle.tools.specs.Calls.{Converted, Placed, Played, aligned, all_lanes, command_in, host_rule, mask_rule, offset_in, opens, session_refusal}
+use Rattle.tools.specs.Calls.{Converted, Placed, Played, aligned, all_lanes, command_in, host_rule, offset_in, opens}
 use Rattle.files.specs.declared.records.CommandFields.{CommandFields}
 
 placed : (w : ℕ) (b : Option OpenBurst) (f : CommandFields) → (b ≡ None → aligned w f.address ≡ true) → (opens b f && not (aligned w f.address)) ≡ false

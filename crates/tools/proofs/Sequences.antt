@@ -1,9 +1,8 @@
 -- The law over the commands of a session, one command after the other.
-use Rattle.std.proofs.Common.{◌≡◌, ℕ, zero, suc, ◌+◌, ◌*◌, ◌<◌, ◌≤◌, Bool, true, false, cond, eqb, List, [], ◌∷◌, ◌++◌, length, get_or, take, drop, set, Some, None, Option, sym, refl, ap, ◌∙◌, subst, add-one, arith}
+use Rattle.std.proofs.Common.{◌≡◌, ℕ, zero, suc, ◌+◌, ◌*◌, ◌<◌, ◌≤◌, Bool, true, false, cond, eqb, List, [], ◌∷◌, ◌++◌, length, get_or, take, drop, set, Some, None, sym, refl, ap, ◌∙◌, subst, add-one, arith}
 use Rattle.std.proofs.lemmas.List.{at_drop_all, at_drop_more, length_push, length-take-le, take_more_set}
-use Rattle.port.specs.Book.{Event, book, fed}
+use Rattle.port.specs.Book.{Event, book}
 use Rattle.port.specs.Legal.{Legal}
-use Rattle.port.specs.Machine.{Moves}
 use Rattle.port.specs.Runs.{Served, was_taken}
 use Rattle.port.specs.State.{State}
 use Rattle.port.specs.declared.calls.Answer.{Answer}

@@ -1,5 +1,5 @@
 -- What the player promises of a session that was played.
-use Rattle.std.specs.Prelude.{◌≡◌, ℕ, ◌*◌, ◌/◌, ◌<◌, List, [], length, take, Ok, Err, vec_items, Result}
+use Rattle.std.specs.Prelude.{◌≡◌, ℕ, ◌*◌, ◌/◌, List, [], length, take, Ok, Err, vec_items, Result}
 use Rattle.std.specs.Borrow.{Bor}
 use Rattle.agents.specs.Building.{Buildable, numbers_of}
 use Rattle.port.specs.Book.{Event, book}

@@ -1,4 +1,4 @@
-use Rattle.std.proofs.Common.{◌≡◌, ℕ, ◌-◌, set, sym, refl, ap, ◌∙◌, subst, arith, length-set}
+use Rattle.std.proofs.Common.{◌≡◌, ℕ, set, sym, refl, ap, ◌∙◌, subst, arith, length-set}
 use Rattle.agents.specs.Items.{around, with_first}
 use Rattle.agents.proofs.queue.Ring.replace_first.Goals as goal
 use Rattle.agents.proofs.Around.{set_start, around_none}

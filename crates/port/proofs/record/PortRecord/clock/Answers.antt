@@ -1,4 +1,4 @@
-use Rattle.std.proofs.Common.{◌≡◌, ◌≤◌, sym, ap, ◌∙◌, subst, arith}
+use Rattle.std.proofs.Common.{sym, ap, ◌∙◌, arith}
 use Rattle.port.specs.Legal.{tally}
 use Rattle.port.specs.Machine.{acted, given}
 use Rattle.port.specs.declared.calls.Reply.{Reply}

@@ -1,7 +1,6 @@
 use Rattle.std.proofs.Common.{◌≡◌, length, ap, arith}
 use Rattle.port.specs.declared.record.PortRecord.{PortRecord}
 use Rattle.port.proofs.Tally.{tally_read}
-use Rattle.port.proofs.Kept.{moves_legal}
 use Rattle.port.proofs.record.PortRecord.take.Goals as goal
 
 -- a read that is taken adds its words and one burst to what is owed

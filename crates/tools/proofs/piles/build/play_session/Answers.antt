@@ -1,4 +1,4 @@
-use Rattle.std.proofs.Common.{◌≡◌, ℕ, List, ◌++◌, length, take, drop, refl, ap, ◌∙◌, subst}
+use Rattle.std.proofs.Common.{ℕ, List, length, drop, refl, ap, ◌∙◌, subst}
 use Rattle.std.proofs.lemmas.List.{take_at}
 use Rattle.tools.specs.Piles.{Plays, numbers_over}
 use Rattle.tools.proofs.piles.build.play_session.Goals as goal
