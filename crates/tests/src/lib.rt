@@ -3,12 +3,12 @@
 #![tactic(auto)]
 
 #[cfg(test)]
-mod adapters;
-#[cfg(test)]
-mod files;
+mod adapter_runs;
 #[cfg(test)]
 mod printing;
 #[cfg(test)]
 mod queues;
 #[cfg(test)]
 mod runs;
+#[cfg(test)]
+mod session_files;
