@@ -3,17 +3,16 @@
 
 use std::io;
 use std::io::Read;
+use std::process::ExitCode;
 use tools::lines::{CallLine, EndLine, HeadLine};
 use tools::piles::{Played, Stop, Summary, play_file};
 
 /// More than the longest session file: what comes after is not read, since the file is refused without it.
 const LIMIT: usize = 65536;
 
-/// Why the player ends with status 1.
+/// Why the player ends with status 1 and no answer to its input.
 #[derive(Debug, Drop)]
 enum Failure {
-    /// The input is no session, and its line is printed.
-    Fault,
     /// There is no memory for the session.
     NoMemory,
     /// Standard input or output failed.
@@ -66,13 +65,16 @@ fn print_played(rt: &HostRuntime, played: &Played) -> io::Result<()> {
     println!(rt; "{end}")
 }
 
-fn main(rt: HostRuntime) -> Result<(), Failure> {
+fn main(rt: HostRuntime) -> Result<ExitCode, Failure> {
     let input = read_input(&rt)?;
     match play_file(rt.alloc(), &input) {
-        Ok(played) => Ok(print_played(&rt, &played)?),
+        Ok(played) => {
+            print_played(&rt, &played)?;
+            Ok(ExitCode::SUCCESS)
+        }
         Err(Stop::Fault(fault)) => {
             println!(rt; "{fault}")?;
-            Err(Failure::Fault)
+            Ok(ExitCode::FAILURE)
         }
         Err(Stop::NoMemory) => Err(Failure::NoMemory),
     }
