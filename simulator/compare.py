@@ -1,6 +1,7 @@
 #!/usr/bin/env python3
-"""compare.py PLAYER N [FIRST]: plays N random sessions, from the random seed FIRST (default 1) on, by PLAYER and by the
-simulator, and stops at the first one at which what they print or their status differs."""
+"""compare.py PLAYER N [FIRST [PILES]]: plays N random sessions, from the random seed FIRST (default 1) on, by PLAYER and by the
+simulator, and stops at the first one at which what they print or their status differs. PILES, as 2,3, are the piles that the
+player builds (default: 2); every other pile is out of range for the simulator too."""
 import collections
 import random
 import subprocess
@@ -23,6 +24,9 @@ def simulated(data):
 def main():
     player, count = sys.argv[1], int(sys.argv[2])
     first = int(sys.argv[3]) if len(sys.argv) > 3 else 1
+    built = {int(x) for x in (sys.argv[4] if len(sys.argv) > 4 else "2").split(",")}
+    for pile in set(PILES) - built:
+        del PILES[pile]
     kinds = collections.Counter()
     for seed in range(first, first + count):
         data = session(random.Random(seed), sorted(PILES))

@@ -16,7 +16,7 @@ pub record Worked : Type 0 where
   -- a widener of 4 bytes over 8: offset 3 is offset 1, lanes 4 to 7
   pub wide_place : (offset_below (wide_cut (sample_port 8 4) 4) 3 ≡ 1) × (lanes_up (wide_cut (sample_port 8 4) 4) 4 3 ≡ 4)
   -- there, a full write at offset 1 is offset 0, mask 0xF0
-  pub wide-write :
+  pub wide_write :
       parts_of (wide_cut (sample_port 8 4) 4) 4 (Write (record { 0 = 1 }) 1 0xF 0x11223344) ≡ Write (record { 0 = 0 }) 1 0xF0 0x1122334400000000 ∷ []
   -- a splitter over the burst limit 4: (10, 9) is (10, 4), (14, 4), (18, 1)
   pub split_read :

@@ -9,7 +9,7 @@ use Rattle.port.specs.declared.numbers.Numbers.{Numbers}
 
 -- b beats to a burst, p read bursts owed: a memory of 8 to 32768 bytes in eights, scripts of 1 to 256 values, and
 -- places for the words and the records of all the bursts that can be owed
-pub record Buildable (size wait-values gap-values word-places burst-places b p : ℕ) : Type 0 where
+pub record Buildable (size wait_values gap_values word_places burst_places b p : ℕ) : Type 0 where
   pub beats_some : 1 ≤ b
   pub beats_few : b ≤ 64
   pub pending_some : 1 ≤ p
@@ -17,12 +17,12 @@ pub record Buildable (size wait-values gap-values word-places burst-places b p :
   pub eights : size % 8 ≡ 0
   pub some : 8 ≤ size
   pub few : size ≤ 32768
-  pub waits_some : 1 ≤ wait-values
-  pub waits_few : wait-values ≤ 256
-  pub gaps_some : 1 ≤ gap-values
-  pub gaps_few : gap-values ≤ 256
-  pub words_room : b * p ≤ word-places
-  pub bursts_room : p ≤ burst-places
+  pub waits_some : 1 ≤ wait_values
+  pub waits_few : wait_values ≤ 256
+  pub gaps_some : 1 ≤ gap_values
+  pub gaps_few : gap_values ≤ 256
+  pub words_room : b * p ≤ word_places
+  pub bursts_room : p ≤ burst_places
 
 -- this storage is enough for a memory with these limits
 abbrev pub Enough : Storage → ℕ → ℕ → Type 0
@@ -36,15 +36,15 @@ Unchanged was is =
 
 -- L is the greatest gap value, and A the greatest wait value and B (L + 1)
 abbrev pub numbers_of : ℕ → ℕ → List ℕ → List ℕ → ℕ → ℕ → Numbers
-numbers_of w size wait-list gap-list b p =
-    record { width = w; words = size / w; burst_limit = b; pending_limit = p; wait_bound = greatest_of wait-list + b * (greatest_of gap-list + 1); silence_bound = greatest_of gap-list }
+numbers_of w size wait_list gap_list b p =
+    record { width = w; words = size / w; burst_limit = b; pending_limit = p; wait_bound = greatest_of wait_list + b * (greatest_of gap_list + 1); silence_bound = greatest_of gap_list }
 
 -- a memory at reset on these bytes, with both scripts at their first value
-pub record Built (w : ℕ) (image wait-list gap-list : List ℕ) (b p : ℕ) (m : Parts) : Type 0 where
+pub record Built (w : ℕ) (image wait_list gap_list : List ℕ) (b p : ℕ) (m : Parts) : Type 0 where
   pub sound : Sound m
-  pub numbers : fixed_of m ≡ numbers_of w (length image) wait-list gap-list b p
+  pub numbers : fixed_of m ≡ numbers_of w (length image) wait_list gap_list b p
   pub state : state_of m ≡ reset image
-  pub waits : listed m.waits ≡ wait-list
+  pub waits : listed m.waits ≡ wait_list
   pub waits_at : place_of m.waits ≡ 0
-  pub gaps : listed m.gaps ≡ gap-list
+  pub gaps : listed m.gaps ≡ gap_list
   pub gaps_at : place_of m.gaps ≡ 0

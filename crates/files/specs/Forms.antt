@@ -1,4 +1,4 @@
--- WellFormed files: sections one after the other, each a count and then so many good records, and nothing left over.
+-- Well-formed files: sections one after the other, each a count and then so many good records, and nothing left over.
 use Rattle.std.specs.Prelude.{◌≡◌, ℕ, zero, suc, ◌+◌, ◌*◌, true, List, [], ◌∷◌, ◌++◌, length, None}
 use Rattle.files.specs.declared.section.Section.{Section}
 use Rattle.files.specs.declared.section.Section.TheVariants.{Pile}

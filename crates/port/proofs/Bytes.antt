@@ -58,12 +58,12 @@ words_below w f o (suc n) small zero = joined_below f (o * w) w small
 words_below w f o (suc n) small (suc i) = words_below w f (o + 1) n small i
 
 -- what stands in a list after a set is the new element or the old one
-get_d_set : (P : ℕ → Type 0) (xs : List ℕ) (k v i : ℕ) → P v → P (get_or xs i 0) → P (get_or (set xs k v) i 0)
-get_d_set P [] k v i new old = old
-get_d_set P (x ∷ xs) zero v zero new old = new
-get_d_set P (x ∷ xs) zero v (suc i) new old = old
-get_d_set P (x ∷ xs) (suc k) v zero new old = old
-get_d_set P (x ∷ xs) (suc k) v (suc i) new old = get_d_set P xs k v i new old
+get_or_set_below : (P : ℕ → Type 0) (xs : List ℕ) (k v i : ℕ) → P v → P (get_or xs i 0) → P (get_or (set xs k v) i 0)
+get_or_set_below P [] k v i new old = old
+get_or_set_below P (x ∷ xs) zero v zero new old = new
+get_or_set_below P (x ∷ xs) zero v (suc i) new old = old
+get_or_set_below P (x ∷ xs) (suc k) v zero new old = old
+get_or_set_below P (x ∷ xs) (suc k) v (suc i) new old = get_or_set_below P xs k v i new old
 
 pub bytes_stored : (a m d n : ℕ) (memory : List ℕ) → ((i : ℕ) → get_or memory i 0 < 256) → (i : ℕ) → get_or (lanes_stored a m d n memory) i 0 < 256
 unfolding lanes_stored
@@ -71,7 +71,7 @@ bytes_stored a m d zero memory small i = small i
 bytes_stored a m d (suc j) memory small i =
     let below = bytes_stored a m d j memory small i in
     cond_both (enabled m j) _ _ (λ (xs : List ℕ). get_or xs i 0 < 256)
-    (λ _. get_d_set (λ b. b < 256) (lanes_stored a m d j memory) (a + j) (lane d j) i (mod_below (d / 2 ^ (8 * j)) 256 (omega arith)) below)
+    (λ _. get_or_set_below (λ b. b < 256) (lanes_stored a m d j memory) (a + j) (lane d j) i (mod_below (d / 2 ^ (8 * j)) 256 (omega arith)) below)
     (λ _. below)
 
 -- bytes outside the lanes stay

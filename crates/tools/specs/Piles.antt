@@ -37,12 +37,12 @@ pub record Plays (n : Numbers) (image xs : List ℕ) (bs : List Answer) (end : S
 
 -- the numbers of the top port of pile 2, over a memory of this many bytes
 abbrev pub numbers_over : PileFields → ℕ → List ℕ → List ℕ → Numbers
-numbers_over p size wait-list gap-list = numbers_of 4 size wait-list gap-list p.burst_limit p.pending_limit
+numbers_over p size wait_list gap_list = numbers_of 4 size wait_list gap_list p.burst_limit p.pending_limit
 
 -- pile 2 can be built over so many bytes, values of the scripts, and places for words and read bursts
 abbrev pub Fitting : PileFields → ℕ → ℕ → ℕ → ℕ → ℕ → Type 0
-Fitting p size wait-values gap-values word-places burst-places =
-    (p.pile ≡ 2) × Buildable size wait-values gap-values word-places burst-places p.burst_limit p.pending_limit
+Fitting p size wait_values gap_values word_places burst_places =
+    (p.pile ≡ 2) × Buildable size wait_values gap_values word_places burst_places p.burst_limit p.pending_limit
 
 -- a session that was played: its memory is the image, and there is an answer for each command
 pub record SessionPlayed (s : Session) (p : Played) : Type 0 where

@@ -12,8 +12,8 @@ use port::width::Width;
 impl<P: Port, W: Width> Adapter<P, W> {
     /// A clock call that is not refused: one call goes below.
     fn serve(&mut self, command: Command) -> Answer
-        requires sound_over { SoundOver P.Port.sound P.Port.fixed P.Port.state W.Width.wide self.old }
-        requires command_value { refusal_in (fixed_over self.old) (state_over P.Port.state self.old) command ≡ None }
+        requires sound { SoundOver P.Port.sound P.Port.fixed P.Port.state W.Width.wide self.old }
+        requires free { refusal_in (fixed_over self.old) (state_over P.Port.state self.old) command ≡ None }
         ensures sound { SoundOver P.Port.sound P.Port.fixed P.Port.state W.Width.wide self.new }
         ensures fixed { fixed_over self.new ≡ fixed_over self.old }
         ensures moves { Moves (fixed_over self.old) (state_over P.Port.state self.old) command result (state_over P.Port.state self.new) }

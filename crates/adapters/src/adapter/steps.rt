@@ -82,7 +82,7 @@ impl Engine {
     fn accept(&mut self, command: Command)
         requires cuttable { (Cuttable self.old.cut) × ((1 ≤ host_width self.old) × (self.old.cut.share * host_width self.old ≤ 8)) }
         requires loadable { Loadable (host_width self.old) self.old.plain.burst command }
-        requires bursts_len { (length self.old.owed.bursts ≡ 16) × ((self.old.owed.count ≤ 16) × (RoomFor self.old.owed.count command)) }
+        requires room { (length self.old.owed.bursts ≡ 16) × ((self.old.owed.count ≤ 16) × (RoomFor self.old.owed.count command)) }
         ensures slot { self.new.slot ≡ slot_for self.old.cut (host_width self.old) self.old.plain.burst command }
         ensures bursts { bursts_in self.new.owed ≡ bursts_in self.old.owed ++ burst_of command true }
         ensures fits { (length self.new.owed.bursts ≡ 16) × (self.new.owed.count ≤ 16) }

@@ -144,7 +144,7 @@ impl Cut {
     /// The slot of a beat to a host word, of which so many are left.
     fn beat_slot(self, width: u8, host: WordOffset, left: u16, mask: u8, word: Word) -> Slot
         requires cuttable { (Cuttable self) × ((1 ≤ width) × ((self.share * width ≤ 8) × (host.0 ≤ 32768))) }
-        requires mask_bound { (mask < 2 ^ width) × (word < 2 ^ (8 * width)) }
+        requires lanes { (mask < 2 ^ width) × (word < 2 ^ (8 * width)) }
         ensures { result ≡ beat_slot self width host.0 left mask word }
     {
         let up = self.lanes_up(width, host);

@@ -19,8 +19,8 @@ impl Collected {
 
     /// One part more has come; the joined parts where it was the last.
     pub(crate) fn add(&mut self, cut: Cut, part: Word) -> Option<Word>
-        requires parts_bound { (cut.parts ≤ 8) × ((1 ≤ cut.width) × ((self.old.count < cut.parts) × (cut.width * self.old.count + cut.width ≤ 8))) }
-        requires value_bound { (self.old.value < 2 ^ (8 * (cut.width * self.old.count))) × (part < 2 ^ (8 * cut.width)) }
+        requires parts { (cut.parts ≤ 8) × ((1 ≤ cut.width) × ((self.old.count < cut.parts) × (cut.width * self.old.count + cut.width ≤ 8))) }
+        requires values { (self.old.value < 2 ^ (8 * (cut.width * self.old.count))) × (part < 2 ^ (8 * cut.width)) }
         ensures has { self.new ≡ collected_with cut self.old part }
         ensures gives { result ≡ whole_with cut self.old part }
     {

@@ -62,8 +62,8 @@ impl<'a> Parts<'a> {
 
     /// Puts the words of a read burst, as the bytes are now, after the words owed.
     fn owe_words<W: Width>(&mut self, offset: WordOffset, count: u16)
-        requires fit { (Fit self.old.words) × (length (items self.old.words) + count ≤ room self.old.words) }
-        requires bytes_len_bound { (length self.old.bytes.now ≤ 32768) × ((offset.0 + count ≤ 32768) × ((offset.0 + count) * W.Width.wide ≤ length self.old.bytes.now)) }
+        requires fits { (Fit self.old.words) × (length (items self.old.words) + count ≤ room self.old.words) }
+        requires within { (length self.old.bytes.now ≤ 32768) × ((offset.0 + count ≤ 32768) × ((offset.0 + count) * W.Width.wide ≤ length self.old.bytes.now)) }
         ensures { Owed (words_at W.Width.wide (byte_in self.old.bytes.now) offset.0 count) self.old self.new }
     {
         for i in 0..count {
@@ -74,8 +74,8 @@ impl<'a> Parts<'a> {
 
     /// Takes a command: owes the words of a read, or stores the beat of a write.
     fn accept<W: Width>(&mut self, command: Command)
-        requires fit { (Fit self.old.words) × ((Fit self.old.bursts) × (InPlace self.old.waits)) }
-        requires bytes_len_bound { (length self.old.bytes.now ≤ 32768) × (Ready W.Width.wide self.old command Take) }
+        requires kept { (Fit self.old.words) × ((Fit self.old.bursts) × (InPlace self.old.waits)) }
+        requires ready { (length self.old.bytes.now ≤ 32768) × (Ready W.Width.wide self.old command Take) }
         ensures { Acted W.Width.wide self.old command Take self.new }
     {
         self.waits.advance();
@@ -99,8 +99,8 @@ impl<'a> Parts<'a> {
 
     /// Acts on a command as it was answered.
     pub(crate) fn act<W: Width>(&mut self, command: Command, reply: Reply)
-        requires fit { (Fit self.old.words) × ((Fit self.old.bursts) × (InPlace self.old.waits)) }
-        requires bytes_len_bound { (length self.old.bytes.now ≤ 32768) × (Ready W.Width.wide self.old command reply) }
+        requires kept { (Fit self.old.words) × ((Fit self.old.bursts) × (InPlace self.old.waits)) }
+        requires ready { (length self.old.bytes.now ≤ 32768) × (Ready W.Width.wide self.old command reply) }
         ensures { Acted W.Width.wide self.old command reply self.new }
     {
         match reply {

@@ -5,9 +5,9 @@ use Rattle.adapters.proofs.cut.Cut.beat_slot.Goals as goal
 pub move_mask_up-requires : goal.move_mask_up-requires
 move_mask_up-requires c =
     let fits : c.lanes_up-up.result + c.args.width ≤ 8 = omega arith in
-    (omega arith, mask_moved c.args.mask c.args.width c.lanes_up-up.result c.requires.mask_bound.0 fits)
+    (omega arith, mask_moved c.args.mask c.args.width c.lanes_up-up.result c.requires.lanes.0 fits)
 
 pub move_up-requires : goal.move_up-requires
 move_up-requires c =
     let fits : c.lanes_up-up.result + c.args.width ≤ 8 = omega arith in
-    (omega arith, word_moved c.args.word c.args.width c.lanes_up-up.result c.requires.mask_bound.1 fits)
+    (omega arith, word_moved c.args.word c.args.width c.lanes_up-up.result c.requires.lanes.1 fits)

@@ -9,7 +9,7 @@ use Rattle.agents.proofs.memory.Parts.owe_words.Goals as goal
 pub loop-i-init : goal.loop-i-init
 unfolding words_at
 loop-i-init g c =
-    record { fits = c.requires.fit.0; same_room = refl; owes = sym (append-nil (items c.args.self.now.words)); bytes = refl; bursts = refl; plain = refl; waits = refl; gaps = refl }
+    record { fits = c.requires.fits.0; same_room = refl; owes = sym (append-nil (items c.args.self.now.words)); bytes = refl; bursts = refl; plain = refl; waits = refl; gaps = refl }
 
 pub look-word-requires : goal.look-word-requires
 look-word-requires g c =

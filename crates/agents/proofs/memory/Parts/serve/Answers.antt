@@ -9,10 +9,10 @@ act-requires g c =
     let m1 = c.give-came.new.self in
     let x = c.give-came.result.word in
     let gave = c.give-came.ensures.gave in
-    let sound = c.requires.0 in (record {
-      fit = (gave.alike.words_fit, (gave.alike.bursts_fit, waits_in_place m0 m1 x sound gave));
-      bytes_len_bound = (few_bytes m0 m1 x sound gave, ready g.W.Width.wide m0 m1 c.args.command c.reply-reply.result x sound c.requires.1.0 c.requires.1.1 c.reply-reply.ensures gave);
-    })
+    let sound = c.requires.0 in record {
+      kept = (gave.alike.words_fit, (gave.alike.bursts_fit, waits_in_place m0 m1 x sound gave));
+      ready = (few_bytes m0 m1 x sound gave, ready g.W.Width.wide m0 m1 c.args.command c.reply-reply.result x sound c.requires.1.0 c.requires.1.1 c.reply-reply.ensures gave);
+    }
 
 pub returns : goal.returns
 returns g c =
