@@ -5,9 +5,10 @@ in camel case.
 usage: python3 tools/respell.py          at the top of the repository: rewrites crates/*/{src,specs,proofs,must-fail}
        python3 tools/respell.py --list   prints each old name with its new one, and changes nothing
 
-A name is taken where specs/ or proofs/ define it: a definition, a lemma, a record, a field or a constructor. Functions of src/,
-strings, inputs and outputs keep their names, and a definition may have the name of the function that it is the meaning of. Two
-names that would be one, or a new name that specs/ or proofs/ have already, are an error, and nothing is written.
+A name is taken where specs/ or proofs/ define it: a definition, a lemma, a record, a field or a constructor. It is respelled
+wherever it stands as a word, in comments too. Functions of src/, inputs and outputs keep their names, and a definition may have
+the name of the function that it is the meaning of. Two names that would be one, or a new name that specs/ or proofs/ have
+already, are an error, and nothing is written.
 """
 import os
 import re
