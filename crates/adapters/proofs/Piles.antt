@@ -5,7 +5,7 @@ use Rattle.port.specs.Book.{after_calls, book}
 use Rattle.port.specs.Machine.{broken, first_of}
 use Rattle.port.specs.Runs.{Ran, Served}
 use Rattle.port.specs.State.{State, reset}
-use Rattle.port.specs.declared.calls.Answer.{Answer}
+use Rattle.port.specs.Answers.{Answer}
 use Rattle.port.specs.declared.calls.Command.{Command}
 use Rattle.port.specs.declared.numbers.Numbers.{Numbers}
 

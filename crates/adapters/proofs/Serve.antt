@@ -3,8 +3,7 @@ use Rattle.std.proofs.Common.{◌≡◌, ℕ, List, length, None, Option, sym, r
 use Rattle.port.specs.Legal.{Legal, tally}
 use Rattle.port.specs.Machine.{Answers, Clocks, Moves, acted, given, moved, refusal_in}
 use Rattle.port.specs.State.{State, Within}
-use Rattle.port.specs.declared.calls.Answer.{Answer}
-use Rattle.port.specs.declared.calls.Answer.TheVariants.{Refused, Clocked}
+use Rattle.port.specs.Answers.{Answer, Clocked, Refused}
 use Rattle.port.specs.declared.calls.Command.{Command}
 use Rattle.port.specs.declared.calls.Reply.{Reply}
 use Rattle.port.specs.declared.numbers.Numbers.{Numbers}

@@ -11,8 +11,7 @@ use Rattle.adapters.specs.declared.adapter.Engine.{Engine}
 use Rattle.port.specs.Machine.{Clocks}
 use Rattle.port.specs.Runs.{takes}
 use Rattle.port.specs.State.{State}
-use Rattle.port.specs.declared.calls.Answer.{Answer}
-use Rattle.port.specs.declared.calls.Answer.TheVariants.{Refused, Clocked}
+use Rattle.port.specs.Answers.{Answer, Clocked, Refused}
 use Rattle.port.specs.declared.calls.Command.{Command}
 use Rattle.port.specs.declared.calls.Reply.{Reply}
 use Rattle.port.specs.declared.numbers.Numbers.{Numbers}

@@ -17,7 +17,7 @@ use Rattle.port.specs.Legal.{Legal, OpenWithin, tally}
 use Rattle.port.specs.Machine.{Clocks, Answers, First, acted, beat_offset, command_rule, given, hold_rule, lanes_rule, moved, opening_rule, refusal_in}
 use Rattle.port.specs.State.{State, Within}
 use Rattle.port.specs.declared.addresses.WordOffset.{WordOffset}
-use Rattle.port.specs.declared.calls.Answer.TheVariants.{Clocked}
+use Rattle.port.specs.Answers.{Clocked}
 use Rattle.port.specs.declared.calls.Command.{Command}
 use Rattle.port.specs.declared.calls.Command.TheVariants.{Idle, Read, Write}
 use Rattle.port.specs.declared.calls.OpenBurst.{OpenBurst}

@@ -9,8 +9,7 @@ use Rattle.port.specs.Legal.{Legal}
 use Rattle.port.specs.Machine.{First, Moves, acted, beat_offset, command_rule, given, hold_rule, moved}
 use Rattle.port.specs.Runs.{Beat, BringsNone, Judged, Lawful, Ran, Served, Silent, Untaken, asked, beat_of, beats_taken, byte_from, clock_in, clocked_in, covers, left_open, open_after, words_requested, words_returned, was_taken, takes, wait_in, waits_in, word_in}
 use Rattle.port.specs.State.{State, Within}
-use Rattle.port.specs.declared.calls.Answer.{Answer}
-use Rattle.port.specs.declared.calls.Answer.TheVariants.{Refused, Clocked}
+use Rattle.port.specs.Answers.{Answer, Clocked, Refused}
 use Rattle.port.specs.declared.calls.Command.{Command}
 use Rattle.port.specs.declared.calls.Command.TheVariants.{Idle, Read, Write}
 use Rattle.port.specs.declared.calls.OpenBurst.{OpenBurst}

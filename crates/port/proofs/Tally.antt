@@ -100,10 +100,9 @@ tally_wait p n σ c a waits e is more =
     let all : waits ≡ σ.waits + 1 = omega arith in
     rw is (cc)
 
--- the waits of a legal state, a word returned or not
-pub waits_given : (n : Numbers) (σ : State) (x : Option ℕ) (p : PortRecord) → Legal n σ → p ≡ tally n (given x σ) → p.waits ≤ 100000000
-waits_given n σ None p legal e = let h : p.waits ≡ σ.waits = ap (λ (q : PortRecord). q.waits) e in omega arith
-waits_given n σ (Some x) p legal e = let h : p.waits ≡ σ.waits = ap (λ (q : PortRecord). q.waits) e in omega arith
+pub few_waits : (n : Numbers) (σ : State) (x : Option ℕ) → Legal n σ → (given x σ).waits ≤ 100000000
+few_waits n σ None legal = omega arith
+few_waits n σ (Some x) legal = omega arith
 
 pub silence_below : (n : Numbers) (σ : State) → Legal n σ → σ.silence ≤ 100000000
 silence_below n σ legal = omega arith

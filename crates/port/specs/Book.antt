@@ -3,8 +3,7 @@
 use Rattle.std.specs.Prelude.{ℕ, List, [], ◌∷◌}
 use Rattle.port.specs.Machine.{moved}
 use Rattle.port.specs.State.{State, reset}
-use Rattle.port.specs.declared.calls.Answer.{Answer}
-use Rattle.port.specs.declared.calls.Answer.TheVariants.{Refused, Clocked}
+use Rattle.port.specs.Answers.{Answer, Clocked, Refused}
 use Rattle.port.specs.declared.calls.Command.{Command}
 
 -- a call and its answer

@@ -9,7 +9,7 @@ use Rattle.port.specs.declared.calls.OpenBurst.{OpenBurst}
 use Rattle.port.specs.declared.numbers.Numbers.{Numbers}
 use Rattle.port.specs.declared.record.PortRecord.{PortRecord}
 use Rattle.port.specs.declared.record.Returned.{Returned}
-use Rattle.port.specs.declared.record.Returned.TheVariants.{Nothing, Word, LastWord}
+use Rattle.port.specs.declared.record.Returned.TheVariants.{More, Last}
 
 -- an open burst has beats left, fewer than a whole burst, all within the words
 abbrev pub OpenWithin : Numbers → Option OpenBurst → Type 0
@@ -47,13 +47,21 @@ abbrev pub tally : Numbers → State → PortRecord
 tally n σ =
     record { numbers = n; burst = σ.burst; held = σ.held; words_owed = length σ.owed; bursts_owed = length σ.reads; waits = σ.waits; silence = σ.silence }
 
+-- the word that came back
+abbrev pub word_of : Returned → ℕ
+word_of (More x) = x
+word_of (Last x) = x
+
+-- that word, or none
+abbrev pub came_word : Option Returned → Option ℕ
+came_word None = None
+came_word (Some r) = Some (word_of r)
+
 -- what came back in a call: nothing, a word with more of its burst to come, or the last word of a burst
-abbrev pub Came : Returned → Option ℕ → List ℕ → Type 0
-Came Nothing x reads = x ≡ None
-Came Word None reads = ⊥
-Came Word (Some x) reads = length (one_came reads) ≡ length reads
-Came LastWord None reads = ⊥
-Came LastWord (Some x) reads = length (one_came reads) + 1 ≡ length reads
+abbrev pub Came : Option Returned → List ℕ → Type 0
+Came None reads = Unit {0}
+Came (Some (More x)) reads = length (one_came reads) ≡ length reads
+Came (Some (Last x)) reads = length (one_came reads) + 1 ≡ length reads
 
 -- the beat of a write goes to an offset far below the largest number
 abbrev pub WithinReach : Option OpenBurst → Command → Type 0

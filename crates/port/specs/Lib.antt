@@ -1,9 +1,11 @@
 pub mod Widths
 pub mod Refusals
+pub mod Answers
 pub mod Lanes
 pub mod State
 pub mod Machine
 pub mod Legal
+pub mod Single
 pub mod Waiting
 pub mod Book
 pub mod Runs

@@ -3,8 +3,7 @@ use Rattle.std.specs.Prelude.{◌≡◌, ℕ, ◌+◌, ◌-◌, ◌*◌, ◌^◌
 use Rattle.port.specs.Lanes.{byte_in, words_at, stored}
 use Rattle.port.specs.Refusals.{number_of}
 use Rattle.port.specs.State.{State, Within}
-use Rattle.port.specs.declared.calls.Answer.{Answer}
-use Rattle.port.specs.declared.calls.Answer.TheVariants.{Refused, Clocked}
+use Rattle.port.specs.Answers.{Answer, Clocked, Refused}
 use Rattle.port.specs.declared.calls.Command.{Command}
 use Rattle.port.specs.declared.calls.Command.TheVariants.{Idle, Read, Write}
 use Rattle.port.specs.declared.calls.OpenBurst.{OpenBurst}

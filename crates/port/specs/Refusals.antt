@@ -1,5 +1,5 @@
 -- The number of each refusal.
-use Rattle.std.specs.Prelude.{◌≡◌, ℕ, Some, None, Option}
+use Rattle.std.specs.Prelude.{◌≡◌, ℕ, Some, None, Ok, Err, Option, Result}
 use Rattle.port.specs.declared.calls.Refusal.{Refusal}
 use Rattle.port.specs.declared.calls.Refusal.TheVariants.{OutOfRange, PortBelow, Bound, Count, PastEnd, Misaligned, Lanes, ReadAndWrite, NoPlace, Held, InBurst}
 
@@ -16,7 +16,7 @@ number_of NoPlace = 10
 number_of Held = 11
 number_of InBurst = 12
 
--- a refusal or none, by its number or none
-abbrev pub Numbered : Option Refusal → Option ℕ → Type 0
-Numbered None n = n ≡ None
-Numbered (Some r) n = n ≡ Some (number_of r)
+-- a check passes where no rule is broken, and fails with the number of the first that is
+abbrev pub Checked : Result (Unit {0}) Refusal → Option ℕ → Type 0
+Checked (Ok _) n = n ≡ None
+Checked (Err r) n = n ≡ Some (number_of r)

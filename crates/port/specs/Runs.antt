@@ -5,8 +5,7 @@ use Rattle.port.specs.Lanes.{byte_in, enabled, lane, words_at}
 use Rattle.port.specs.Machine.{Answers, beat_offset, burst_after, refusal_in}
 use Rattle.port.specs.Refusals.{number_of}
 use Rattle.port.specs.State.{State}
-use Rattle.port.specs.declared.calls.Answer.{Answer}
-use Rattle.port.specs.declared.calls.Answer.TheVariants.{Refused, Clocked}
+use Rattle.port.specs.Answers.{Answer, Clocked, Refused}
 use Rattle.port.specs.declared.calls.Command.{Command}
 use Rattle.port.specs.declared.calls.Command.TheVariants.{Idle, Read, Write}
 use Rattle.port.specs.declared.calls.OpenBurst.{OpenBurst}

@@ -1,13 +1,14 @@
 //! What is put to a port and what it answers.
 use crate::addresses::WordOffset;
 
+mod printed;
 mod refusals;
 
 /// A word as it travels: lane i is bits 8i to 8i + 7.
 pub type Word = u64;
 
 /// What a host puts to a port in one clock call.
-#[derive(Clone, Copy)]
+#[derive(Clone, Copy, PartialEq, Eq, Debug)]
 pub enum Command {
     Idle,
     Read {
@@ -30,39 +31,38 @@ pub enum Reply {
     Take,
 }
 
-/// Why something is refused. `specs/Refusals.antt` gives each name its number.
+/// Why something is refused, with its number.
 #[derive(Clone, Copy, PartialEq, Eq, Debug)]
 pub enum Refusal {
     /// A number or a count is outside its range.
-    OutOfRange,
+    OutOfRange = 2,
     /// The port below an adapter does not serve it: its burst limit is too small, or something is open, held or owed.
-    PortBelow,
+    PortBelow = 3,
     /// A bound on waits or on silence would be above 100,000,000.
-    Bound,
+    Bound = 4,
     /// An opening count is 0 or above the burst limit.
-    Count,
+    Count = 5,
     /// An opening burst ends past the last word.
-    PastEnd,
+    PastEnd = 6,
     /// An opening byte address is no multiple of the width.
-    Misaligned,
+    Misaligned = 7,
     /// A mask or a word has bits beyond the width.
-    Lanes,
+    Lanes = 8,
     /// Read and write in one command.
-    ReadAndWrite,
+    ReadAndWrite = 9,
     /// Too few free places.
-    NoPlace,
+    NoPlace = 10,
     /// Another command is held.
-    Held,
+    Held = 11,
     /// A read while a write burst is open.
-    InBurst,
+    InBurst = 12,
 }
 
-/// The answer to a clock call: refused, or clocked, with one word or none.
-#[derive(Clone, Copy, PartialEq, Eq, Debug)]
-pub enum Answer {
-    Refused(Refusal),
-    Clocked(Reply, Option<Word>),
-}
+/// What a call that is not refused brings: a reply, with one word or none.
+pub type Clocked = (Reply, Option<Word>);
+
+/// The answer to a clock call.
+pub type Answer = Result<Clocked, Refusal>;
 
 /// An open write burst: where its next beat goes, and how many beats are left.
 #[derive(Clone, Copy)]

@@ -1,4 +1,13 @@
-//! The six fixed numbers of a port.
+//! The six fixed numbers of a port, and the two of them that are chosen.
+
+/// What is chosen of a port when it is built.
+#[derive(Clone, Copy)]
+pub struct Limits {
+    /// The most beats of a burst.
+    pub burst: u8,
+    /// The most read bursts owed at once.
+    pub pending: u8,
+}
 
 /// What never changes of a port.
 #[derive(Clone, Copy)]

@@ -1,5 +1,5 @@
 //! The plain record that every make of port holds: its numbers, and what is open, held and owed, as counts.
-use crate::calls::{Command, OpenBurst};
+use crate::calls::{Command, OpenBurst, Word};
 use crate::numbers::Numbers;
 
 mod moves;
@@ -17,10 +17,11 @@ pub struct PortRecord {
     pub silence: u32,
 }
 
-/// What came back in a clock call: no word, a word with more of its burst to come, or the last word of a burst.
+/// A word that came back in a clock call.
 #[derive(Clone, Copy)]
 pub enum Returned {
-    Nothing,
-    Word,
-    LastWord,
+    /// More of its burst is to come.
+    More(Word),
+    /// It is the last of its burst.
+    Last(Word),
 }

@@ -9,17 +9,14 @@ use crate::addresses::{ByteAddress, WordOffset};
 pub trait Width {
     const BYTES: u8;
 
-    ghost wide: { ℕ };
-
-    /// The constant `BYTES`, with its contract.
-    fn width() -> u8
-        ensures { result ≡ wide };
+    // the same number, for contracts
+    ghost BYTES: { ℕ };
 
     /// The word that begins at an address; none where the address is no multiple of the width.
     fn divide(at: ByteAddress) -> Option<WordOffset>
-        ensures { elim result [ Some o ↦ (at.0 % wide ≡ 0) × (o.0 ≡ at.0 / wide) | None ↦ (at.0 % wide ≢ 0) ] }
+        ensures { elim result [ Some o ↦ (at.0 % BYTES ≡ 0) × (o.0 ≡ at.0 / BYTES) | None ↦ (at.0 % BYTES ≢ 0) ] }
     {
-        let w = Self::width() as u32;
+        let w = Self::BYTES as u32;
         if at.0 % w == 0 {
             Some(WordOffset(at.0 / w))
         } else {
@@ -29,15 +26,12 @@ pub trait Width {
 
     /// The address at which a word begins; none where it is past the last byte address.
     fn multiply(at: WordOffset) -> Option<ByteAddress>
-        ensures { elim result [ Some a ↦ a.0 ≡ at.0 * wide | None ↦ 2 ^ 32 ≤ at.0 * wide ] }
+        ensures { elim result [ Some a ↦ a.0 ≡ at.0 * BYTES | None ↦ 2 ^ 32 ≤ at.0 * BYTES ] }
     {
-        match at.0.checked_mul(Self::width() as u32) {
-            Some(a) => Some(ByteAddress(a)),
-            None => None,
-        }
+        at.0.checked_mul(Self::BYTES as u32).map(ByteAddress)
     }
 
-    ghost widths: { Wide wide };
+    ghost widths: { Wide BYTES };
 }
 
 /// Words of one byte.
@@ -59,47 +53,31 @@ pub struct W8;
 impl Width for W1 {
     const BYTES: u8 = 1;
 
-    ghost wide = { 1 };
+    ghost BYTES = { 1 };
 
     ghost widths = { Prim.search rules };
-
-    fn width() -> u8 {
-        Self::BYTES
-    }
 }
 
 impl Width for W2 {
     const BYTES: u8 = 2;
 
-    ghost wide = { 2 };
+    ghost BYTES = { 2 };
 
     ghost widths = { Prim.search rules };
-
-    fn width() -> u8 {
-        Self::BYTES
-    }
 }
 
 impl Width for W4 {
     const BYTES: u8 = 4;
 
-    ghost wide = { 4 };
+    ghost BYTES = { 4 };
 
     ghost widths = { Prim.search rules };
-
-    fn width() -> u8 {
-        Self::BYTES
-    }
 }
 
 impl Width for W8 {
     const BYTES: u8 = 8;
 
-    ghost wide = { 8 };
+    ghost BYTES = { 8 };
 
     ghost widths = { Prim.search rules };
-
-    fn width() -> u8 {
-        Self::BYTES
-    }
 }

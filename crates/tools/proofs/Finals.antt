@@ -4,7 +4,7 @@ use Rattle.port.specs.Book.{book}
 use Rattle.port.specs.Legal.{tally}
 use Rattle.port.specs.Runs.{Served}
 use Rattle.port.specs.State.{State, reset}
-use Rattle.port.specs.declared.calls.Answer.{Answer}
+use Rattle.port.specs.Answers.{Answer}
 use Rattle.port.specs.declared.numbers.Numbers.{Numbers}
 use Rattle.port.specs.declared.record.PortRecord.{PortRecord}
 use Rattle.tools.specs.Piles.{Plays, count_of}

@@ -6,8 +6,7 @@ use Rattle.port.specs.Machine.{Clocks, Moves, refusal_in, refusal_by}
 use Rattle.port.specs.Refusals.{number_of}
 use Rattle.port.specs.State.{State}
 use Rattle.port.specs.declared.addresses.WordOffset.{WordOffset}
-use Rattle.port.specs.declared.calls.Answer.{Answer}
-use Rattle.port.specs.declared.calls.Answer.TheVariants.{Refused, Clocked}
+use Rattle.port.specs.Answers.{Answer, Clocked, Refused}
 use Rattle.port.specs.declared.calls.Command.{Command}
 use Rattle.port.specs.declared.calls.Command.TheVariants.{Read, Write}
 use Rattle.port.specs.declared.calls.OpenBurst.{OpenBurst}

@@ -4,7 +4,7 @@ use Rattle.std.specs.Borrow.{Bor}
 use Rattle.agents.specs.Building.{Buildable, numbers_of}
 use Rattle.port.specs.Book.{Event, book}
 use Rattle.port.specs.Runs.{Served}
-use Rattle.port.specs.declared.calls.Answer.{Answer}
+use Rattle.port.specs.Answers.{Answer}
 use Rattle.port.specs.declared.numbers.Numbers.{Numbers}
 use Rattle.files.specs.Forms.{Contents, WellFormed}
 use Rattle.files.specs.Sessions.{Rejected}

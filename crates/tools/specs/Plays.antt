@@ -4,8 +4,7 @@ use Rattle.port.specs.Book.{Event, book}
 use Rattle.port.specs.Refusals.{number_of}
 use Rattle.port.specs.Runs.{Served, was_taken}
 use Rattle.port.specs.State.{State}
-use Rattle.port.specs.declared.calls.Answer.{Answer}
-use Rattle.port.specs.declared.calls.Answer.TheVariants.{Refused, Clocked}
+use Rattle.port.specs.Answers.{Answer, Clocked, Refused}
 use Rattle.port.specs.declared.numbers.Numbers.{Numbers}
 use Rattle.files.specs.Bytes.{bytes_at}
 use Rattle.tools.specs.Calls.{command_in, session_refusal}

@@ -9,18 +9,6 @@ impl Refusal {
     pub fn number(self) -> u8
         ensures { result ≡ number_of self }
     {
-        match self {
-            Refusal::OutOfRange => 2,
-            Refusal::PortBelow => 3,
-            Refusal::Bound => 4,
-            Refusal::Count => 5,
-            Refusal::PastEnd => 6,
-            Refusal::Misaligned => 7,
-            Refusal::Lanes => 8,
-            Refusal::ReadAndWrite => 9,
-            Refusal::NoPlace => 10,
-            Refusal::Held => 11,
-            Refusal::InBurst => 12,
-        }
+        self as u8
     }
 }

@@ -1,12 +1,12 @@
 //! The record of a port at reset, and after a clocked call. Sums saturate, and the contracts show that none does
 //! in a legal state.
 ghost use Rattle.std.specs.Prelude.{◌≡◌, ℕ, ◌<◌, ◌≤◌, List, length, None, Option};
-ghost use Rattle.port.specs.Legal.{Came, Legal, WithinReach, tally};
+ghost use Rattle.port.specs.Legal.{Came, Legal, WithinReach, came_word, tally, word_of};
 ghost use Rattle.port.specs.Machine.{acted, beat_offset, burst_after, given, moved, refusal_in, rest_of_burst};
 ghost use Rattle.port.specs.State.{State, reset};
 ghost use Rattle.port.specs.declared.calls.Reply.TheVariants.{Take};
 
-use crate::calls::{Command, OpenBurst, Reply};
+use crate::calls::{Clocked, Command, OpenBurst, Reply, Word};
 use crate::numbers::Numbers;
 use crate::record::{PortRecord, Returned};
 
@@ -34,6 +34,17 @@ fn open_next(burst: Option<OpenBurst>, offset: u32, count: u16) -> Option<OpenBu
     }
 }
 
+impl Returned {
+    /// The word.
+    pub fn word(self) -> Word
+        ensures { result ≡ word_of self }
+    {
+        match self {
+            Returned::More(word) | Returned::Last(word) => word,
+        }
+    }
+}
+
 impl PortRecord {
     /// The record of a port at reset.
     pub fn new(numbers: Numbers) -> PortRecord
@@ -51,23 +62,23 @@ impl PortRecord {
     }
 
     /// What a returned word, or none, leaves owed.
-    fn give(&mut self, returned: Returned)
-        ensures { (n : Numbers) (σ : State) (x : Option ℕ) → self.old ≡ tally n σ → σ.silence ≤ 100000000
-            → Came returned x σ.reads → self.new ≡ tally n (given x σ) }
+    fn give(&mut self, returned: Option<Returned>)
+        ensures { (n : Numbers) (σ : State) → self.old ≡ tally n σ → σ.silence ≤ 100000000
+            → Came returned σ.reads → self.new ≡ tally n (given (came_word returned) σ) }
     {
         match returned {
-            Returned::Nothing => {
+            None => {
                 self.silence = if self.words_owed > 0 {
                     self.silence.saturating_add(1)
                 } else {
                     0
                 };
             }
-            Returned::Word => {
+            Some(Returned::More(_)) => {
                 self.words_owed = self.words_owed.saturating_sub(1);
                 self.silence = 0;
             }
-            Returned::LastWord => {
+            Some(Returned::Last(_)) => {
                 self.words_owed = self.words_owed.saturating_sub(1);
                 self.bursts_owed = self.bursts_owed.saturating_sub(1);
                 self.silence = 0;
@@ -96,12 +107,11 @@ impl PortRecord {
         }
     }
 
-    /// Moves with a clocked call that is not refused: the make of port says how it answers and what came back.
-    pub fn clock(&mut self, command: Command, reply: Reply, returned: Returned)
-        ensures { (n : Numbers) (σ : State) (x : Option ℕ) → self.old ≡ tally n σ → Legal n σ → refusal_in n σ command ≡ None
-            → Came returned x σ.reads → self.new ≡ tally n (moved n.width σ command reply x) }
+    /// Idle, wait or take.
+    fn act(&mut self, command: Command, reply: Reply)
+        ensures { (n : Numbers) (σ : State) → self.old ≡ tally n σ → length σ.owed ≤ 65536 → length σ.reads ≤ 16
+            → σ.waits ≤ 100000000 → WithinReach σ.burst command → self.new ≡ tally n (acted n.width command reply σ) }
     {
-        self.give(returned);
         match reply {
             Reply::Idle => {}
             Reply::Wait => {
@@ -110,5 +120,16 @@ impl PortRecord {
             }
             Reply::Take => self.take(command),
         }
+    }
+
+    /// Moves with a call that is not refused: the make of port says how it answers and what came back.
+    pub fn clock(&mut self, command: Command, reply: Reply, returned: Option<Returned>) -> Clocked
+        ensures moves { (n : Numbers) (σ : State) → self.old ≡ tally n σ → Legal n σ → refusal_in n σ command ≡ None
+            → Came returned σ.reads → self.new ≡ tally n (moved n.width σ command reply (came_word returned)) }
+        ensures answer { result ≡ (reply, came_word returned) }
+    {
+        self.give(returned);
+        self.act(command, reply);
+        (reply, returned.map(Returned::word))
     }
 }

@@ -17,13 +17,12 @@ loop-i-preserved g c =
     let σ = g.P.Port.state c.args.port.now in
     let τ = g.P.Port.state c.loop-i.port in
     let υ = g.P.Port.state c.clock.new.self in
-    let same = c.loop-i.invariant.1 in
-    let legal = subst (λ (m : Numbers). Legal m τ) same (g.P.Port.legal c.loop-i.port c.loop-i.invariant.0) in
+    let same = c.loop-i.invariant.0 in
+    let legal = subst (λ (m : Numbers). Legal m τ) same (g.met.P.Port.legal c.loop-i.port) in
     let moves = subst (λ (m : Numbers). Moves m τ (get_or cs i Idle) b υ) same c.clock.ensures.moves in (
-      c.clock.ensures.sound,
       c.clock.ensures.fixed ∙ same,
-      ran_step n σ cs bs i τ b υ (omega arith) (omega arith) legal c.loop-i.invariant.2 moves,
-      drop-set-lt (i + 1) bs i b (omega arith) ∙ sym (drop-drop 1 i bs) ∙ ap (drop 1) c.loop-i.invariant.3 ∙ drop-drop 1 i c.args.answers.now,
+      ran_step n σ cs bs i τ b υ (omega arith) (omega arith) legal c.loop-i.invariant.1 moves,
+      drop-set-lt (i + 1) bs i b (omega arith) ∙ sym (drop-drop 1 i bs) ∙ ap (drop 1) c.loop-i.invariant.2 ∙ drop-drop 1 i c.args.answers.now,
     )
 
 pub returns : goal.returns
@@ -35,9 +34,8 @@ returns g c =
     record {
       ran = (
         omega arith,
-        ran_all n (g.P.Port.state c.args.port.now) cs bs c.loop-i.i (g.P.Port.state c.loop-i.port) all c.loop-i.invariant.2,
-        subst (λ j. drop j bs ≡ drop j c.args.answers.now) all c.loop-i.invariant.3,
+        ran_all n (g.P.Port.state c.args.port.now) cs bs c.loop-i.i (g.P.Port.state c.loop-i.port) all c.loop-i.invariant.1,
+        subst (λ j. drop j bs ≡ drop j c.args.answers.now) all c.loop-i.invariant.2,
       );
-      sound = c.loop-i.invariant.0;
-      fixed = c.loop-i.invariant.1;
+      fixed = c.loop-i.invariant.0;
     }

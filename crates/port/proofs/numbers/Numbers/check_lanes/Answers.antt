@@ -1,6 +1,6 @@
 use Rattle.std.proofs.Common.{◌*◌, ◌^◌, ◌≤◌, arith, pow_mono}
 use Rattle.std.proofs.lemmas.Bool.{lt-leb}
-use Rattle.port.proofs.numbers.Numbers.lanes_refusal.Goals as goal
+use Rattle.port.proofs.numbers.Numbers.check_lanes.Goals as goal
 
 -- from eight bytes on, no mask and no word has a bit beyond the width
 pub returns-else-self-lt8 : goal.returns-else-self-lt8
