@@ -154,7 +154,7 @@ built c n σ v b p e legal suited rule fresh =
     let ranges = ranges_above c n v b p legal.ranges suited (tally n σ) s in
     let both = keeps_fresh n n' σ.memory σ c e.cut e.slot (bursts_in e.owed) e.collected e.plain at fresh.cut fresh.slot fresh.bursts empty (fresh.plain σ.memory)
     (fitted c n v b p legal.ranges suited) (legal_reset n' σ.memory ranges (legal.size ∙ sym all) legal.bytes) in
-    ((both.0, fresh.room, fresh.few), both.1)
+    (both.0, both.1)
 
 -- an engine over a port that told its status, with a width that told its bytes
 abbrev Raised : Cut → ℕ → ℕ → ℕ → PortRecord → Engine → Type 0

@@ -1,7 +1,10 @@
 -- What an adapter keeps is what its code asks.
 use Rattle.std.proofs.Common.{◌≡◌, ℕ, ◌+◌, ◌*◌, ◌^◌, ◌<◌, ◌≤◌, List, [], ◌∷◌, length, get_or, Some, None, Option, sym, ap, ◌∙◌, subst, inl, inr, mul_comm, zero-mul, mul-one, mul-add, arith}
+use Rattle.std.proofs.Math.Logic.{∥∥₁_elim}
+use Rattle.std.proofs.Props.{props}
+use Rattle.std.specs.Coded.{Unit-prop}
 use Rattle.std.proofs.lemmas.Nat.{mul-le}
-use Rattle.std.proofs.lemmas.List.{length-append, length-map, length-take-le}
+use Rattle.std.proofs.lemmas.List.{length-append, length-map}
 use Rattle.std.proofs.lemmas.Bool.{cases_lt}
 use Rattle.port.specs.Legal.{Legal, OpenWithin}
 use Rattle.port.specs.Machine.{First, command_rule, lanes_rule, opening_rule}
@@ -53,28 +56,33 @@ near size (b ∷ bs) few within = omega (arith, within.1)
 parts_fit : (w g k : ℕ) → g < k → w * k ≤ 8 → w * g + w ≤ 8
 parts_fit w g k lt few = let h = mul-le w (g + 1) w k (omega arith) (omega arith) in omega (arith, mul-add w g 1, mul-one w)
 
-pub workable : (n : Numbers) (σ : State) (e : Engine) → Legal n σ → Kept n σ e → Workable e
+workable : (n : Numbers) (σ : State) (e : Engine) → Legal n σ → Kept n σ e → Workable e
 workable n σ e legal kept =
-    let k = kept.0 in
+    let k = kept in
     let f = k.fitted in
     let n' = e.plain.numbers in
     let above = wide_some n'.width k.legal.ranges.wide in
     let few = words_below n' k.legal.ranges in
-    let count : length (bursts_in e.owed) ≡ e.owed.count = length-take-le e.owed.count e.owed.bursts (omega arith) in
     record {
       cuttable = cuttable e.cut n n' σ legal f;
       wide = above.0;
       shared = omega (arith, f.widths, f.bytes_few, mul_comm n'.width e.cut.share);
       placed = placed e.cut n n' e.slot σ.burst e.plain.burst (words_below n legal.ranges) few k.lined;
-      room = kept.1;
-      few = kept.2;
       pending = k.legal.ranges.pending_few;
-      tallied = ap (λ (p : PortRecord). p.bursts_owed) k.tallied ∙ (length-map (bursts_in e.owed) (λ b. b.left) ∙ count);
+      tallied = ap (λ (p : PortRecord). p.bursts_owed) k.tallied ∙ length-map (bursts_in e.owed) (λ b. b.left);
       near = near n'.words (bursts_in e.owed) few k.bursts_within;
       parts_few = k.parts_few;
       parts_fit = parts_fit e.cut.width e.collected.count e.cut.parts k.parts_few f.bytes_few;
       value_fits = k.value_fits;
     }
+
+placed_prop : (c : Cut) (s : Slot) → IsProp (Placed c s)
+placed_prop c Empty = Unit-prop
+placed_prop c (Reading h n) = Prim.hlevel props
+placed_prop c (Beat o p m d n) = Prim.hlevel props
+
+pub works : (n : Numbers) (σ : State) (e : Engine) → Legal n σ → ∥ Kept n σ e ∥₁ → Workable e
+works n σ e legal kept = ∥∥₁_elim kept (Prim.hlevel (props, placed_prop e.cut e.slot)) (workable n σ e legal)
 
 -- a word that comes was owed
 came_small : (limit x : ℕ) (owed : List ℕ) → First (Some x) owed → ((i : ℕ) → get_or owed i 0 < limit) → (x < limit) × (0 < length owed)
@@ -86,10 +94,10 @@ unfolding offsets_in
 some_bursts [] some = some
 some_bursts (b ∷ bs) some = omega arith
 
-pub due : (n : Numbers) (σ : State) (e : Engine) (x : Option ℕ) → Legal n σ → Kept n σ e → First x σ.owed → Due e x
+due : (n : Numbers) (σ : State) (e : Engine) (x : Option ℕ) → Legal n σ → Kept n σ e → First x σ.owed → Due e x
 due n σ e None legal kept first = tt
 due n σ e (Some x) legal kept first =
-    let k = kept.0 in
+    let k = kept in
     let came = came_small (2 ^ (8 * n.width)) x σ.owed first legal.values in
     let small = subst (λ w. x < 2 ^ (8 * w)) (sym k.fitted.below) came.0 in
     let asked : 0 < length k.requested = elim (cases_lt 0 (length k.requested)) [
@@ -98,8 +106,14 @@ due n σ e (Some x) legal kept first =
     ] in
     let all : 0 < length (offsets_in (bursts_in e.owed)) = omega (arith, ap (λ (xs : List ℕ). length xs) k.queued, length-append k.requested (offsets_in_slot e.slot)) in
     let some = some_bursts (bursts_in e.owed) all in
-    let count : length (bursts_in e.owed) ≡ e.owed.count = length-take-le e.owed.count e.owed.bursts (omega arith) in
     (small, omega arith)
+
+due_prop : (e : Engine) (x : Option ℕ) → IsProp (Due e x)
+due_prop e None = Unit-prop
+due_prop e (Some x) = Prim.hlevel props
+
+pub comes_due : (n : Numbers) (σ : State) (e : Engine) (x : Option ℕ) → Legal n σ → ∥ Kept n σ e ∥₁ → First x σ.owed → Due e x
+comes_due n σ e x legal kept first = ∥∥₁_elim kept (due_prop e x) (λ k. due n σ e x legal k first)
 
 beat_near : (n : Numbers) (b : Option OpenBurst) (command : Command) → n.words ≤ 32768 → OpenWithin n b → command_rule n b command ≡ None → LanesFit n.width command → Loadable n.width b command
 beat_near n b Idle few within free fits = tt

@@ -1,25 +1,26 @@
 -- A clocked call of an adapter, from one call below and what its engine did.
-use Rattle.std.proofs.Common.{◌≡◌, ℕ, List, length, None, Option, sym, refl, ap, ◌∙◌, subst}
+use Rattle.std.proofs.Common.{◌≡◌, ℕ, List, length, Some, None, Option, sym, refl, ap, ◌∙◌, subst, arith}
+use Rattle.std.proofs.Props.{props}
+use Rattle.std.proofs.Math.Logic.{∥∥₁_elim, ∥∥₁_map}
 use Rattle.port.specs.Legal.{Legal, tally}
-use Rattle.port.specs.Machine.{Answers, Clocks, Moves, acted, given, moved, refusal_in}
+use Rattle.port.specs.Machine.{Answers, Clocks, acted, given, moved, refusal_in}
+use Rattle.port.specs.Single.{clocks_prop}
 use Rattle.port.specs.State.{State, Within}
-use Rattle.port.specs.Answers.{Answer, Clocked, Refused}
 use Rattle.port.specs.declared.calls.Command.{Command}
 use Rattle.port.specs.declared.calls.Reply.{Reply}
 use Rattle.port.specs.declared.numbers.Numbers.{Numbers}
 use Rattle.port.specs.declared.record.PortRecord.{PortRecord}
 use Rattle.adapters.specs.Above.{above, state_above}
-use Rattle.adapters.specs.Adapters.{SoundOver, TimedOver}
 use Rattle.adapters.specs.Cuts.{next_part}
-use Rattle.adapters.specs.Engine.{Settled, SettledBy, reply_above}
+use Rattle.adapters.specs.Engine.{Settled, reply_above}
 use Rattle.adapters.specs.Kept.{Keeps, Kept}
 use Rattle.adapters.specs.Owed.{bursts_in, lefts}
-use Rattle.adapters.specs.declared.adapter.Adapter.{Adapter}
 use Rattle.adapters.specs.declared.adapter.Engine.{Engine}
 use Rattle.adapters.specs.declared.cut.Cut.{Cut}
 use Rattle.adapters.specs.declared.cut.Slot.{Slot}
 use Rattle.adapters.specs.declared.owed.Collected.{Collected}
 use Rattle.adapters.specs.declared.owed.OwedBurst.{OwedBurst}
+use Rattle.adapters.proofs.Lined.{part_free}
 use Rattle.adapters.proofs.Replies.{Why, in_kind, why_of}
 use Rattle.adapters.proofs.Step.{Step, clocks_after, keeps_after}
 
@@ -37,11 +38,10 @@ same_keeps n n' c c' s s' bs bs' g g' p p' σ σ' en ec es eb eg ep eσ keeps =
     (subst (λ (i : List OwedBurst). Keeps n' σ c' s' i g p) eb (subst (λ (i : Slot). Keeps n' σ c' i bs g p) es (subst (λ (i : Cut). Keeps n' σ i s bs g p) ec (subst (λ (i : Numbers). Keeps i σ c s bs g p) en keeps))))))
 
 -- what a clocked call leaves
-pub record Left {B W : Type 0} (keeps : B → Type 0) (numbers : B → Numbers) (state : B → State) (timing : B → Command → Answer → B → Type 0) (v : ℕ) (was is : Adapter B W) (command : Command) (answer : Answer) : Type 0 where
-  pub sound : SoundOver keeps numbers state v is
-  pub fixed : is.engine.plain.numbers ≡ was.engine.plain.numbers
-  pub moves : Moves was.engine.plain.numbers (above was.engine (state was.below)) command answer (above is.engine (state is.below))
-  pub timed : TimedOver numbers state timing was command answer is
+pub record Left (m : Numbers) (τ : State) (σ' : State) (e e' : Engine) (command : Command) (a : Reply) (y : Option ℕ) : Type 0 where
+  pub kept : Kept m τ e'
+  pub fixed : e'.plain.numbers ≡ e.plain.numbers
+  pub moves : Clocks e.plain.numbers σ' command a y (above e' τ)
 
 -- the call below, in the terms of the slot
 moved_below : (n : Numbers) (σ τ : State) (e : Engine) (part : Command) (t : Reply) (x : Option ℕ) → e.cut.width ≡ n.width → part ≡ next_part e.cut e.slot → τ ≡ moved n.width σ part t x →
@@ -54,71 +54,61 @@ step_of : (n : Numbers) (σ τ : State) (e e' : Engine) (command part : Command)
 step_of n σ τ e e' command part t x a y legal kept free is called settled =
     let bs = bursts_in e.owed in
     let n' = e.plain.numbers in
-    let count : e.plain.bursts_owed ≡ length (lefts bs) = ap (λ (p : PortRecord). p.bursts_owed) kept.0.tallied in
+    let count : e.plain.bursts_owed ≡ length (lefts bs) = ap (λ (p : PortRecord). p.bursts_owed) kept.tallied in
     let replies : a ≡ reply_above e.slot (length (lefts bs)) n'.pending_limit command = settled.replies ∙ ap (λ i. reply_above e.slot i n'.pending_limit command) count in
     record {
       legal = legal;
-      keeps = kept.0;
+      keeps = kept;
       free = free;
       answers = subst (λ (c : Command). Answers c t) is called.answers;
       first = called.first;
-      within = subst (Within n) (moved_below n σ τ e part t x kept.0.fitted.below is called.moves) called.within;
-      why = subst (Why e.slot (length (lefts bs)) n'.pending_limit command) (sym replies) (why_of e.cut n n' e.slot σ.burst e.plain.burst (length (lefts bs)) n'.pending_limit command kept.0.lined);
+      within = subst (Within n) (moved_below n σ τ e part t x kept.fitted.below is called.moves) called.within;
+      why = subst (Why e.slot (length (lefts bs)) n'.pending_limit command) (sym replies) (why_of e.cut n n' e.slot σ.burst e.plain.burst (length (lefts bs)) n'.pending_limit command kept.lined);
       in_kind = subst (Answers command) (sym replies) (in_kind e.slot (length (lefts bs)) n'.pending_limit command);
       word = settled.word;
     }
 
-served_by : {B W : Type 0} (keeps : B → Type 0) (numbers : B → Numbers) (state : B → State) (timing : B → Command → Answer → B → Type 0) (v : ℕ) (was is : Adapter B W) (command part : Command) (t : Reply) (x : Option ℕ) (a : Reply) (y : Option ℕ) →
-    Legal (numbers was.below) (state was.below) → SoundOver keeps numbers state v was → refusal_in was.engine.plain.numbers (above was.engine (state was.below)) command ≡ None → part ≡ next_part was.engine.cut was.engine.slot →
-    keeps is.below → numbers is.below ≡ numbers was.below → Clocks (numbers was.below) (state was.below) part t x (state is.below) → timing was.below part (Clocked t x) is.below →
-    Settled was.engine command t x a y is.engine → Left keeps numbers state timing v was is command (Clocked a y)
-served_by keeps numbers state timing v was is command part t x a y legal sound free cut under same called timed settled =
-    let e = was.engine in
-    let e' = is.engine in
-    let n = numbers was.below in
-    let σ = state was.below in
+left : (n m : Numbers) (σ τ : State) (e e' : Engine) (command part : Command) (t : Reply) (x : Option ℕ) (a : Reply) (y : Option ℕ) →
+    Legal n σ → Kept n σ e → refusal_in e.plain.numbers (above e σ) command ≡ None → part ≡ next_part e.cut e.slot →
+    m ≡ n → Clocks n σ part t x τ → Settled e command t x a y e' → Left m τ (above e σ) e e' command a y
+left n m σ τ e e' command part t x a y legal kept free cut same called settled =
     let n' = e.plain.numbers in
     let bs = bursts_in e.owed in
-    let kept = sound.kept in
-    let step = step_of n σ (state is.below) e e' command part t x a y legal kept free cut called settled in
-    let plain : e'.plain ≡ tally n' (moved n'.width (above e σ) command a y) = settled.plain n' (above e σ) kept.0.tallied kept.0.legal free refl in
-    let down = moved_below n σ (state is.below) e part t x kept.0.fitted.below cut called.moves in
-    let numbered : e'.plain.numbers ≡ n' = ap (λ (p : PortRecord). p.numbers) plain in
+    let step = step_of n σ τ e e' command part t x a y legal kept free cut called settled in
+    let plain : e'.plain ≡ tally n' (moved n'.width (above e σ) command a y) = settled.plain n' (above e σ) kept.tallied kept.legal free refl in
+    let down = moved_below n σ τ e part t x kept.fitted.below cut called.moves in
     record {
-      sound = record {
-        under = under;
-        kept = (
-          same_keeps n (numbers is.below) _ e'.cut _ e'.slot _ (bursts_in e'.owed) _ e'.collected _ e'.plain _ (state is.below)
-              (sym same) (sym settled.same_cut) (sym settled.slot) (sym settled.bursts) (sym settled.collected) (sym plain) (sym down)
-              (keeps_after n σ e.cut e.slot bs e.collected e.plain command t x a y step),
-          settled.room,
-          settled.few,
-        );
-        wide = ap (λ (m : Numbers). m.width) numbered ∙ sound.wide;
-      };
-      fixed = numbered;
+      kept = same_keeps n m _ e'.cut _ e'.slot _ (bursts_in e'.owed) _ e'.collected _ e'.plain _ τ
+          (sym same) (sym settled.same_cut) (sym settled.slot) (sym settled.bursts) (sym settled.collected) (sym plain) (sym down)
+          (keeps_after n σ e.cut e.slot bs e.collected e.plain command t x a y step);
+      fixed = ap (λ (p : PortRecord). p.numbers) plain;
       moves = subst (Clocks n' (above e σ) command a y)
-          (same_above _ e'.cut _ e'.slot _ (bursts_in e'.owed) _ e'.collected _ e'.plain _ (state is.below)
+          (same_above _ e'.cut _ e'.slot _ (bursts_in e'.owed) _ e'.collected _ e'.plain _ τ
           (sym settled.same_cut) (sym settled.slot) (sym settled.bursts) (sym settled.collected) (sym plain) (sym down))
           (clocks_after n σ e.cut e.slot bs e.collected e.plain command t x a y step);
-      timed = record {
-        taken = t;
-        x = x;
-        called = subst (λ (c : Command). Clocks n σ c t x (state is.below)) cut called;
-        in_time = subst (λ (c : Command). timing was.below c (Clocked t x) is.below) cut timed;
-        replies = settled.replies;
-        returns = settled.word;
-        slot = settled.slot;
-        collects = settled.collected;
-        owes = settled.bursts;
-        cuts = settled.same_cut;
-      };
     }
 
-pub served : {B W : Type 0} (keeps : B → Type 0) (numbers : B → Numbers) (state : B → State) (timing : B → Command → Answer → B → Type 0) (v : ℕ) (was is : Adapter B W) (command part : Command) (t : Reply) (x : Option ℕ) (answer : Answer) →
-    Legal (numbers was.below) (state was.below) → SoundOver keeps numbers state v was → refusal_in was.engine.plain.numbers (above was.engine (state was.below)) command ≡ None → part ≡ next_part was.engine.cut was.engine.slot →
-    keeps is.below → numbers is.below ≡ numbers was.below → Clocks (numbers was.below) (state was.below) part t x (state is.below) → timing was.below part (Clocked t x) is.below →
-    SettledBy was.engine command t x answer is.engine → Left keeps numbers state timing v was is command answer
-served keeps numbers state timing v was is command part t x (Refused r) legal sound free cut under same called timed settled = absurd settled
-served keeps numbers state timing v was is command part t x (Clocked a y) legal sound free cut under same called timed settled =
-    served_by keeps numbers state timing v was is command part t x a y legal sound free cut under same called timed settled
+-- the same, where an adapter is known to keep this, and not how
+pub record Served (m : Numbers) (τ : State) (σ' : State) (e e' : Engine) (command : Command) (a : Reply) (y : Option ℕ) : Type 0 where
+  pub kept : ∥ Kept m τ e' ∥₁
+  pub fixed : e'.plain.numbers ≡ e.plain.numbers
+  pub moves : Clocks e.plain.numbers σ' command a y (above e' τ)
+
+pub served : (n m : Numbers) (σ τ : State) (e e' : Engine) (command part : Command) (t : Reply) (x : Option ℕ) (a : Reply) (y : Option ℕ) →
+    Legal n σ → ∥ Kept n σ e ∥₁ → refusal_in e.plain.numbers (above e σ) command ≡ None → part ≡ next_part e.cut e.slot →
+    m ≡ n → Clocks n σ part t x τ → Settled e command t x a y e' → Served m τ (above e σ) e e' command a y
+served n m σ τ e e' command part t x a y legal kept free cut same called settled =
+    let all : ∥ Left m τ (above e σ) e e' command a y ∥₁ = ∥∥₁_map kept (λ k. left n m σ τ e e' command part t x a y legal k free cut same called settled) in
+    record {
+      kept = ∥∥₁_map all (λ l. l.kept);
+      fixed = ∥∥₁_elim all (Prim.hlevel props) (λ l. l.fixed);
+      moves = ∥∥₁_elim all (clocks_prop e.plain.numbers (above e σ) command a y (above e' τ)) (λ l. l.moves);
+    }
+
+-- no part is refused below
+pub unrefused : (n : Numbers) (σ : State) (e : Engine) (part : Command) (number : ℕ) → Legal n σ → ∥ Kept n σ e ∥₁ → part ≡ next_part e.cut e.slot → refusal_in n σ part ≡ Some number → ⊥
+unrefused n σ e part number legal kept cut refused =
+    ∥∥₁_elim kept (Prim.hlevel props) (λ k.
+      let free = part_free e.cut n e.plain.numbers e.slot σ.burst e.plain.burst σ.held k.fitted k.lined k.holding in
+      let here = ap (λ (p : Command). refusal_in n σ p) cut in
+      let z : ◌≡◌ {A = ℕ} 0 1 = cc in omega arith)

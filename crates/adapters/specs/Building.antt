@@ -12,7 +12,9 @@ use Rattle.port.specs.Machine.{broken, first_of}
 use Rattle.port.specs.State.{State, reset}
 use Rattle.port.specs.Widths.{Wide}
 use Rattle.port.specs.declared.numbers.Numbers.{Numbers}
+use Rattle.port.specs.declared.ports.Port as port
 use Rattle.port.specs.declared.record.PortRecord.{PortRecord}
+use Rattle.port.specs.declared.width.Width as width
 
 -- n is from low to high
 abbrev pub in_range : ℕ → ℕ → ℕ → Bool
@@ -134,14 +136,13 @@ pub record Fresh (n' : Numbers) (c : Cut) (e : Engine) : Type 0 where
   pub cut : e.cut ≡ c
   pub slot : e.slot ≡ Empty
   pub bursts : bursts_in e.owed ≡ []
-  pub room : length e.owed.bursts ≡ 16
-  pub few : e.owed.count ≤ 16
   pub value : e.collected.value ≡ 0
   pub count : e.collected.count ≡ 0
 
 -- an adapter over this port with these numbers and this cut, at reset on the memory below
-pub record BuiltOver {B W : Type 0} (state : B → State) (below : B) (n' : Numbers) (c : Cut) (x : Adapter B W) : Type 0 where
-  pub port : x.below ≡ below
-  pub numbers : fixed_over x ≡ n'
-  pub cut : x.engine.cut ≡ c
-  pub start : state_over state x ≡ reset (state below).memory
+module _ {P W V : Type 0} {p : port.Ghosts P V} {v : width.Ghosts V} {w : width.Ghosts W} where
+  pub record BuiltOver (below : P) (n' : Numbers) (c : Cut) (x : Adapter P W V p v w) : Type 0 where
+    pub port : x.below ≡ below
+    pub numbers : fixed_over x ≡ n'
+    pub cut : x.engine.cut ≡ c
+    pub start : state_over x ≡ reset (p.state below).memory

@@ -59,10 +59,8 @@ pub record Workable (e : Engine) : Type 0 where
   pub wide : 1 ≤ host_width e
   pub shared : e.cut.share * host_width e ≤ 8
   pub placed : Placed e.cut e.slot
-  pub room : length e.owed.bursts ≡ 16
-  pub few : e.owed.count ≤ 16
   pub pending : e.plain.numbers.pending_limit ≤ 16
-  pub tallied : e.plain.bursts_owed ≡ e.owed.count
+  pub tallied : e.plain.bursts_owed ≡ length (bursts_in e.owed)
   pub near : next_owed (bursts_in e.owed) ≤ 32768
   pub parts_few : e.collected.count < e.cut.parts
   pub parts_fit : e.cut.width * e.collected.count + e.cut.width ≤ 8
@@ -71,7 +69,7 @@ pub record Workable (e : Engine) : Type 0 where
 -- a word that comes from below fits its width, and belongs to a read burst that is owed
 abbrev pub Due : Engine → Option ℕ → Type 0
 Due e None = Unit {0}
-Due e (Some x) = (x < 2 ^ (8 * e.cut.width)) × (0 < e.owed.count)
+Due e (Some x) = (x < 2 ^ (8 * e.cut.width)) × (0 < length (bursts_in e.owed))
 
 -- there is a place for the burst of a read
 abbrev pub RoomFor : ℕ → Command → Type 0
@@ -86,8 +84,6 @@ pub record Collects (e : Engine) (x y : Option ℕ) (e' : Engine) : Type 0 where
   pub word : y ≡ host_word e x
   pub collected : e'.collected ≡ collected_after e.cut e.collected x
   pub bursts : bursts_in e'.owed ≡ bursts_less y (bursts_in e.owed)
-  pub room : length e'.owed.bursts ≡ 16
-  pub few : e'.owed.count ≤ e.owed.count
   pub same_cut : e'.cut ≡ e.cut
   pub same_slot : e'.slot ≡ e.slot
   pub same_plain : e'.plain ≡ e.plain
@@ -98,12 +94,6 @@ pub record Settled (e : Engine) (c : Command) (taken : Reply) (x : Option ℕ) (
   pub word : y ≡ host_word e x
   pub collected : e'.collected ≡ collected_after e.cut e.collected x
   pub bursts : bursts_in e'.owed ≡ bursts_less y (bursts_in e.owed) ++ burst_of c (takes a)
-  pub room : length e'.owed.bursts ≡ 16
-  pub few : e'.owed.count ≤ 16
   pub same_cut : e'.cut ≡ e.cut
   pub slot : e'.slot ≡ slot_filled e.cut (host_width e) e.plain.burst c a (slot_sent e.cut taken e.slot)
   pub plain : (n : Numbers) (σ : State) → e.plain ≡ tally n σ → Legal n σ → refusal_in n σ c ≡ None → σ.reads ≡ lefts (bursts_in e.owed) → e'.plain ≡ tally n (moved n.width σ c a y)
-
-abbrev pub SettledBy : Engine → Command → Reply → Option ℕ → Answer → Engine → Type 0
-SettledBy e c t x (Refused r) e' = ⊥
-SettledBy e c t x (Clocked a y) e' = Settled e c t x a y e'

@@ -3,6 +3,7 @@ pub mod Owed
 pub mod Engine
 pub mod Above
 pub mod Kept
+pub mod Lawful
 pub mod Adapters
 pub mod Building
 pub mod Cases

@@ -1,5 +1,5 @@
 -- The words that an adapter owes its host, from the words owed to it below.
-use Rattle.std.specs.Prelude.{ℕ, zero, suc, ◌+◌, ◌-◌, ◌*◌, ◌/◌, ◌%◌, ◌^◌, Bool, cond, List, [], ◌∷◌, ◌++◌, map, take, drop, Some, None, Option, nat_lt}
+use Rattle.std.specs.Prelude.{ℕ, zero, suc, ◌+◌, ◌-◌, ◌*◌, ◌/◌, ◌%◌, ◌^◌, Bool, cond, List, [], ◌∷◌, ◌++◌, map, drop, Some, None, Option, nat_lt}
 use Rattle.adapters.specs.Cuts.{lanes_up}
 use Rattle.adapters.specs.declared.cut.Cut.{Cut}
 use Rattle.adapters.specs.declared.owed.Collected.{Collected}
@@ -10,7 +10,7 @@ use Rattle.adapters.specs.declared.owed.OwedBursts.{OwedBursts}
 
 -- the read bursts owed, the oldest first
 abbrev pub bursts_in : OwedBursts → List OwedBurst
-bursts_in q = take q.count q.bursts
+bursts_in q = q.bursts.items
 
 -- how many words are left of each
 abbrev pub lefts : List OwedBurst → List ℕ

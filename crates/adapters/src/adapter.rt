@@ -1,7 +1,12 @@
 //! The adapter: a port over any port.
+ghost use Rattle.std.specs.Prelude.{◌≡◌};
+ghost use Rattle.adapters.specs.Kept.{Kept};
+
 use crate::cut::{Cut, Slot};
 use crate::owed::{Collected, OwedBursts};
+use port::ports::Port;
 use port::record::PortRecord;
+use port::width::Width;
 use std::marker::PhantomData;
 
 mod build;
@@ -11,7 +16,7 @@ mod steps;
 pub use build::{narrower, splitter, widener};
 
 /// What an adapter holds besides the port below.
-#[derive(Clone, Copy)]
+#[derive(Drop)]
 pub(crate) struct Engine {
     plain: PortRecord,
     cut: Cut,
@@ -22,8 +27,10 @@ pub(crate) struct Engine {
 
 /// A port with words of the width `W`, over any port.
 #[derive(Drop)]
-pub struct Adapter<P, W> {
+pub struct Adapter<P: Port, W: Width> {
     below: P,
     engine: Engine,
     width: PhantomData<W>,
+    ghost kept: { ∥ Kept (P.fixed below) (P.state below) engine ∥₁ },
+    ghost wide: { engine.plain.numbers.width ≡ W.BYTES },
 }

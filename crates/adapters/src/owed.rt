@@ -1,20 +1,20 @@
 //! What an adapter owes its host: the read bursts, and the parts that have come of the first word.
+use arrayvec::ArrayVec;
 use port::addresses::WordOffset;
 
 mod steps;
 
 /// A read burst that is owed: its next word, and how many words are left.
-#[derive(Clone, Copy)]
+#[derive(Clone, Copy, Default)]
 pub(crate) struct OwedBurst {
     pub next: WordOffset,
     pub left: u16,
 }
 
 /// The read bursts owed, the oldest first. No port owes more than sixteen.
-#[derive(Clone, Copy)]
+#[derive(Drop)]
 pub(crate) struct OwedBursts {
-    bursts: [OwedBurst; 16],
-    count: usize,
+    bursts: ArrayVec<OwedBurst, 16>,
 }
 
 /// The parts that have come of the first word owed, joined, and how many they are.

@@ -1,5 +1,6 @@
 //! A pile of three adapters over any port, and a list of calls run on its top.
 use crate::adapter::Adapter;
+use port::numbers::Limits;
 
 mod build;
 
@@ -11,9 +12,7 @@ pub type Pile<P, U, V> = Adapter<Adapter<Adapter<P, U>, U>, V>;
 /// What is chosen of a pile's adapters, bottom first.
 #[derive(Clone, Copy)]
 pub struct PileLimits {
-    pub widener_burst: u8,
-    pub widener_pending: u8,
-    pub splitter_burst: u8,
-    pub splitter_pending: u8,
+    pub widener: Limits,
+    pub splitter: Limits,
     pub narrower_pending: u8,
 }

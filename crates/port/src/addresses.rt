@@ -6,5 +6,5 @@
 pub struct ByteAddress(pub u32);
 
 /// The place of a word: its index among the words of a port.
-#[derive(Clone, Copy, PartialEq, Eq, Debug)]
+#[derive(Clone, Copy, Default, PartialEq, Eq, Debug)]
 pub struct WordOffset(pub u32);

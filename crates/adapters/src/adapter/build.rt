@@ -1,6 +1,5 @@
 //! Building an adapter over a port. What cannot be built is refused, and the port comes back.
 ghost use Rattle.std.specs.Prelude.{◌≡◌, ◌*◌, ◌^◌, ◌<◌, ◌≤◌, Some, None, Ok, Err};
-ghost use Rattle.adapters.specs.Adapters.{SoundOver};
 ghost use Rattle.adapters.specs.Building.{BuiltOver, Fresh, Suited, at_rest, bound_rule, in_range, is_factor, narrow_cut, narrow_numbers, narrow_refusal, narrow_rule, numbers_above, over_rule, split_cut, split_numbers, split_refusal, split_rule, wide_cut, wide_numbers, wide_refusal, wide_rule};
 ghost use Rattle.adapters.specs.Kept.{silence_above, wait_above};
 ghost use Rattle.port.specs.Legal.{tally};
@@ -10,34 +9,38 @@ use crate::adapter::{Adapter, Engine};
 use crate::cut::{Cut, Slot};
 use crate::owed::{Collected, OwedBursts};
 use port::calls::Refusal;
-use port::numbers::Numbers;
+use port::numbers::{Limits, Numbers};
 use port::ports::Port;
 use port::record::PortRecord;
 use port::width::Width;
 use std::marker::PhantomData;
 
-/// Whether a number is from `low` to `high`.
-fn is_within(n: u8, low: u8, high: u8) -> bool
-    ensures { result ≡ in_range low high n }
-{
-    low <= n && n <= high
-}
-
 /// Whether the wider of two words has 2, 4 or 8 of the narrower ones.
 fn is_factor(k: u8) -> bool
     ensures { result ≡ is_factor k }
 {
-    k == 2 || k == 4 || k == 8
+    matches!(k, 2 | 4 | 8)
+}
+
+/// Whether a pending limit is in its range.
+fn is_pending(pending: u8) -> bool
+    ensures { result ≡ in_range 1 16 pending }
+{
+    (1..=16).contains(&pending)
+}
+
+/// Whether a burst limit is in its range.
+fn is_burst(burst: u8) -> bool
+    ensures { result ≡ in_range 1 64 burst }
+{
+    (1..=64).contains(&burst)
 }
 
 /// Whether nothing is open, held or owed.
 fn is_at_rest(status: PortRecord) -> bool
     ensures { result ≡ at_rest status }
 {
-    match (status.burst, status.held) {
-        (None, None) => status.words_owed == 0,
-        _ => false,
-    }
+    status.burst.is_none() && status.held.is_none() && status.words_owed == 0
 }
 
 /// L': the port below may first let the slot's read wait, and then each of the parts of a word be late.
@@ -65,16 +68,15 @@ fn numbers_above(
     below: Numbers,
     width: u8,
     parts: u8,
-    burst_limit: u8,
-    pending_limit: u8,
+    limits: Limits,
 ) -> Result<Numbers, Refusal>
     requires { (1 ≤ width) × (below.words * below.width ≤ 32768) }
     ensures { elim result [
-      | Ok n ↦ (bound_rule (numbers_above parts below width burst_limit pending_limit) ≡ None) × (n ≡ numbers_above parts below width burst_limit pending_limit)
-      | Err e ↦ bound_rule (numbers_above parts below width burst_limit pending_limit) ≡ Some (number_of e)
+      | Ok n ↦ (bound_rule (numbers_above parts below width limits.burst limits.pending) ≡ None) × (n ≡ numbers_above parts below width limits.burst limits.pending)
+      | Err e ↦ bound_rule (numbers_above parts below width limits.burst limits.pending) ≡ Some (number_of e)
     ] }
 {
-    let wait = wait_above(below, parts, burst_limit);
+    let wait = wait_above(below, parts, limits.burst);
     let silence = silence_above(below, parts);
     if wait > 100_000_000 || silence > 100_000_000 {
         return Err(Refusal::Bound);
@@ -82,8 +84,8 @@ fn numbers_above(
     Ok(Numbers {
         width,
         words: below.words * below.width as u32 / width as u32,
-        burst_limit,
-        pending_limit,
+        burst_limit: limits.burst,
+        pending_limit: limits.pending,
         wait_bound: wait as u32,
         silence_bound: silence as u32,
     })
@@ -98,7 +100,7 @@ fn narrow_cut(below: Numbers, width: u8, pending_limit: u8) -> Result<Cut, Refus
     ] }
 {
     let parts = width / below.width;
-    if !is_factor(parts) || !is_within(pending_limit, 1, 16) {
+    if !is_factor(parts) || !is_pending(pending_limit) {
         return Err(Refusal::OutOfRange);
     }
     // one host word must fit into a burst below
@@ -114,13 +116,13 @@ fn narrow_cut(below: Numbers, width: u8, pending_limit: u8) -> Result<Cut, Refus
 }
 
 /// How a splitter cuts: into bursts as long as the port below takes them.
-fn split_cut(below: Numbers, width: u8, burst_limit: u8, pending_limit: u8) -> Result<Cut, Refusal>
+fn split_cut(below: Numbers, width: u8, limits: Limits) -> Result<Cut, Refusal>
     ensures { elim result [
-      | Ok c ↦ (split_rule below width burst_limit pending_limit ≡ None) × (c ≡ split_cut below)
-      | Err e ↦ split_rule below width burst_limit pending_limit ≡ Some (number_of e)
+      | Ok c ↦ (split_rule below width limits.burst limits.pending ≡ None) × (c ≡ split_cut below)
+      | Err e ↦ split_rule below width limits.burst limits.pending ≡ Some (number_of e)
     ] }
 {
-    if width != below.width || !is_within(burst_limit, 1, 64) || !is_within(pending_limit, 1, 16) {
+    if width != below.width || !is_burst(limits.burst) || !is_pending(limits.pending) {
         return Err(Refusal::OutOfRange);
     }
     Ok(Cut {
@@ -132,15 +134,15 @@ fn split_cut(below: Numbers, width: u8, burst_limit: u8, pending_limit: u8) -> R
 }
 
 /// How a widener cuts: `share` host words are one word below, and each host word is a burst of its own.
-fn wide_cut(below: Numbers, width: u8, burst_limit: u8, pending_limit: u8) -> Result<Cut, Refusal>
+fn wide_cut(below: Numbers, width: u8, limits: Limits) -> Result<Cut, Refusal>
     requires { 1 ≤ width }
     ensures { elim result [
-      | Ok c ↦ (wide_rule below width burst_limit pending_limit ≡ None) × (c ≡ wide_cut below width)
-      | Err e ↦ wide_rule below width burst_limit pending_limit ≡ Some (number_of e)
+      | Ok c ↦ (wide_rule below width limits.burst limits.pending ≡ None) × (c ≡ wide_cut below width)
+      | Err e ↦ wide_rule below width limits.burst limits.pending ≡ Some (number_of e)
     ] }
 {
     let share = below.width / width;
-    if !is_factor(share) || !is_within(burst_limit, 1, 64) || !is_within(pending_limit, 1, 16) {
+    if !is_factor(share) || !is_burst(limits.burst) || !is_pending(limits.pending) {
         return Err(Refusal::OutOfRange);
     }
     Ok(Cut {
@@ -166,27 +168,19 @@ impl Engine {
     }
 
     /// An engine at reset over a port with this status, if the port serves it.
-    fn over(
-        status: PortRecord,
-        width: u8,
-        cut: Cut,
-        burst_limit: u8,
-        pending_limit: u8,
-    ) -> Result<Engine, Refusal>
+    fn over(status: PortRecord, width: u8, cut: Cut, limits: Limits) -> Result<Engine, Refusal>
         requires { (1 ≤ width) × (status.numbers.words * status.numbers.width ≤ 32768) }
         ensures { elim result [
-          | Ok x ↦ (over_rule (numbers_above cut.parts status.numbers width burst_limit pending_limit) status ≡ None)
-              × Fresh (numbers_above cut.parts status.numbers width burst_limit pending_limit) cut x
-          | Err e ↦ over_rule (numbers_above cut.parts status.numbers width burst_limit pending_limit) status ≡ Some (number_of e)
+          | Ok x ↦ (over_rule (numbers_above cut.parts status.numbers width limits.burst limits.pending) status ≡ None)
+              × Fresh (numbers_above cut.parts status.numbers width limits.burst limits.pending) cut x
+          | Err e ↦ over_rule (numbers_above cut.parts status.numbers width limits.burst limits.pending) status ≡ Some (number_of e)
         ] }
     {
         if !is_at_rest(status) {
             return Err(Refusal::PortBelow);
         }
-        match numbers_above(status.numbers, width, cut.parts, burst_limit, pending_limit) {
-            Ok(numbers) => Ok(Engine::new(numbers, cut)),
-            Err(refusal) => Err(refusal),
-        }
+        let numbers = numbers_above(status.numbers, width, cut.parts, limits)?;
+        Ok(Engine::new(numbers, cut))
     }
 }
 
@@ -194,21 +188,17 @@ impl Engine {
 fn over<W: Width, P: Port>(
     below: P,
     cut: Cut,
-    burst_limit: u8,
-    pending_limit: u8,
+    limits: Limits,
 ) -> Result<Adapter<P, W>, (Refusal, P)>
-    requires sound { P.Port.sound below }
-    requires suited { Suited cut (P.Port.fixed below) W.Width.wide burst_limit pending_limit }
+    requires { Suited cut (P.fixed below) W.BYTES limits.burst limits.pending }
     ensures { elim result [
-      | Ok x ↦ (over_rule (numbers_above cut.parts (P.Port.fixed below) W.Width.wide burst_limit pending_limit) (tally (P.Port.fixed below) (P.Port.state below)) ≡ None)
-          × SoundOver P.Port.sound P.Port.fixed P.Port.state W.Width.wide x
-          × BuiltOver P.Port.state below (numbers_above cut.parts (P.Port.fixed below) W.Width.wide burst_limit pending_limit) cut x
-      | Err e ↦ (over_rule (numbers_above cut.parts (P.Port.fixed below) W.Width.wide burst_limit pending_limit) (tally (P.Port.fixed below) (P.Port.state below)) ≡ Some (number_of e.0))
+      | Ok x ↦ (over_rule (numbers_above cut.parts (P.fixed below) W.BYTES limits.burst limits.pending) (tally (P.fixed below) (P.state below)) ≡ None)
+          × BuiltOver below (numbers_above cut.parts (P.fixed below) W.BYTES limits.burst limits.pending) cut x
+      | Err e ↦ (over_rule (numbers_above cut.parts (P.fixed below) W.BYTES limits.burst limits.pending) (tally (P.fixed below) (P.state below)) ≡ Some (number_of e.0))
           × (e.1 ≡ below)
     ] }
 {
-    let status = below.status();
-    match Engine::over(status, W::width(), cut, burst_limit, pending_limit) {
+    match Engine::over(below.status(), W::BYTES, cut, limits) {
         Ok(engine) => Ok(Adapter {
             below,
             engine,
@@ -224,17 +214,22 @@ pub fn narrower<W: Width, P: Port>(
     below: P,
     pending_limit: u8,
 ) -> Result<Adapter<P, W>, (Refusal, P)>
-    requires { P.Port.sound below }
     ensures { elim result [
-      | Ok x ↦ (narrow_refusal (P.Port.fixed below) (P.Port.state below) W.Width.wide pending_limit ≡ None)
-          × SoundOver P.Port.sound P.Port.fixed P.Port.state W.Width.wide x
-          × BuiltOver P.Port.state below (narrow_numbers (P.Port.fixed below) W.Width.wide pending_limit) (narrow_cut (P.Port.fixed below) W.Width.wide) x
-      | Err e ↦ (narrow_refusal (P.Port.fixed below) (P.Port.state below) W.Width.wide pending_limit ≡ Some (number_of e.0))
+      | Ok x ↦ (narrow_refusal (P.fixed below) (P.state below) W.BYTES pending_limit ≡ None)
+          × BuiltOver below (narrow_numbers (P.fixed below) W.BYTES pending_limit) (narrow_cut (P.fixed below) W.BYTES) x
+      | Err e ↦ (narrow_refusal (P.fixed below) (P.state below) W.BYTES pending_limit ≡ Some (number_of e.0))
           × (e.1 ≡ below)
     ] }
 {
-    match narrow_cut(below.status().numbers, W::width(), pending_limit) {
-        Ok(cut) => over(below, cut, cut.most, pending_limit),
+    match narrow_cut(below.status().numbers, W::BYTES, pending_limit) {
+        Ok(cut) => over(
+            below,
+            cut,
+            Limits {
+                burst: cut.most,
+                pending: pending_limit,
+            },
+        ),
         Err(refusal) => Err((refusal, below)),
     }
 }
@@ -242,25 +237,17 @@ pub fn narrower<W: Width, P: Port>(
 /// A port that takes longer or shorter bursts than the port below, with words of the same width.
 pub fn splitter<W: Width, P: Port>(
     below: P,
-    burst_limit: u8,
-    pending_limit: u8,
+    limits: Limits,
 ) -> Result<Adapter<P, W>, (Refusal, P)>
-    requires { P.Port.sound below }
     ensures { elim result [
-      | Ok x ↦ (split_refusal (P.Port.fixed below) (P.Port.state below) W.Width.wide burst_limit pending_limit ≡ None)
-          × SoundOver P.Port.sound P.Port.fixed P.Port.state W.Width.wide x
-          × BuiltOver P.Port.state below (split_numbers (P.Port.fixed below) W.Width.wide burst_limit pending_limit) (split_cut (P.Port.fixed below)) x
-      | Err e ↦ (split_refusal (P.Port.fixed below) (P.Port.state below) W.Width.wide burst_limit pending_limit ≡ Some (number_of e.0))
+      | Ok x ↦ (split_refusal (P.fixed below) (P.state below) W.BYTES limits.burst limits.pending ≡ None)
+          × BuiltOver below (split_numbers (P.fixed below) W.BYTES limits.burst limits.pending) (split_cut (P.fixed below)) x
+      | Err e ↦ (split_refusal (P.fixed below) (P.state below) W.BYTES limits.burst limits.pending ≡ Some (number_of e.0))
           × (e.1 ≡ below)
     ] }
 {
-    match split_cut(
-        below.status().numbers,
-        W::width(),
-        burst_limit,
-        pending_limit,
-    ) {
-        Ok(cut) => over(below, cut, burst_limit, pending_limit),
+    match split_cut(below.status().numbers, W::BYTES, limits) {
+        Ok(cut) => over(below, cut, limits),
         Err(refusal) => Err((refusal, below)),
     }
 }
@@ -268,30 +255,22 @@ pub fn splitter<W: Width, P: Port>(
 /// A port with narrower words than the port below: several host words are one word there.
 pub fn widener<W: Width, P: Port>(
     below: P,
-    burst_limit: u8,
-    pending_limit: u8,
+    limits: Limits,
 ) -> Result<Adapter<P, W>, (Refusal, P)>
-    requires { P.Port.sound below }
     ensures { elim result [
-      | Ok x ↦ (wide_refusal (P.Port.fixed below) (P.Port.state below) W.Width.wide burst_limit pending_limit ≡ None)
-          × SoundOver P.Port.sound P.Port.fixed P.Port.state W.Width.wide x
-          × BuiltOver P.Port.state below (wide_numbers (P.Port.fixed below) W.Width.wide burst_limit pending_limit) (wide_cut (P.Port.fixed below) W.Width.wide) x
-      | Err e ↦ (wide_refusal (P.Port.fixed below) (P.Port.state below) W.Width.wide burst_limit pending_limit ≡ Some (number_of e.0))
+      | Ok x ↦ (wide_refusal (P.fixed below) (P.state below) W.BYTES limits.burst limits.pending ≡ None)
+          × BuiltOver below (wide_numbers (P.fixed below) W.BYTES limits.burst limits.pending) (wide_cut (P.fixed below) W.BYTES) x
+      | Err e ↦ (wide_refusal (P.fixed below) (P.state below) W.BYTES limits.burst limits.pending ≡ Some (number_of e.0))
           × (e.1 ≡ below)
     ] }
 {
-    match wide_cut(
-        below.status().numbers,
-        W::width(),
-        burst_limit,
-        pending_limit,
-    ) {
-        Ok(cut) => over(below, cut, burst_limit, pending_limit),
+    match wide_cut(below.status().numbers, W::BYTES, limits) {
+        Ok(cut) => over(below, cut, limits),
         Err(refusal) => Err((refusal, below)),
     }
 }
 
-impl<P, W> Adapter<P, W> {
+impl<P: Port, W: Width> Adapter<P, W> {
     /// The port below, when the adapter is given up.
     pub(crate) fn into_below(self) -> P
         ensures { result ≡ self.below }

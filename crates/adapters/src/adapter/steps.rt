@@ -1,21 +1,14 @@
 //! What an adapter does with its own data in a clocked call.
 ghost use Rattle.std.specs.Prelude.{◌≡◌, ◌*◌, ◌≤◌, true, ◌++◌, length, Some, None};
 ghost use Rattle.adapters.specs.Cuts.{Cuttable, Loadable, Placed, slot_for};
-ghost use Rattle.adapters.specs.Engine.{Collects, Due, RoomFor, SettledBy, Workable, burst_of, host_width, reply_above, slot_sent};
+ghost use Rattle.adapters.specs.Engine.{Collects, Due, RoomFor, Settled, Workable, burst_of, host_width, reply_above, slot_sent};
 ghost use Rattle.adapters.specs.Owed.{bursts_in, lefts};
-ghost use Rattle.port.specs.Legal.{Came};
+ghost use Rattle.port.specs.Legal.{Came, came_word};
 
 use crate::adapter::Engine;
 use crate::owed::OwedBurst;
-use port::calls::{Answer, Command, Reply, Word};
+use port::calls::{Clocked, Command, Reply, Word};
 use port::record::Returned;
-
-/// What a call brings the host.
-#[derive(Clone, Copy)]
-pub(crate) struct Given {
-    pub word: Option<Word>,
-    pub returned: Returned,
-}
 
 impl Engine {
     /// How a command that is not refused is answered.
@@ -38,28 +31,15 @@ impl Engine {
     }
 
     /// A word from below, or none: the host word that it makes whole.
-    fn collect(&mut self, word: Option<Word>) -> Given
+    fn collect(&mut self, word: Option<Word>) -> Option<Returned>
         requires { (Workable self.old) × (Due self.old word) }
-        ensures collects { Collects self.old word result.word self.new }
-        ensures told { Came result.returned result.word (lefts (bursts_in self.old.owed)) }
+        ensures collects { Collects self.old word (came_word result) self.new }
+        ensures told { Came result (lefts (bursts_in self.old.owed)) }
     {
-        let nothing = Given {
-            word: None,
-            returned: Returned::Nothing,
-        };
-        let Some(part) = word else {
-            return nothing;
-        };
-        let Some(joined) = self.collected.add(self.cut, part) else {
-            return nothing;
-        };
+        let joined = self.collected.add(self.cut, word?)?;
         let host = self.owed.next();
         let word = self.cut.lanes_of(self.plain.numbers.width, host, joined);
-        let returned = self.owed.one_came();
-        Given {
-            word: Some(word),
-            returned,
-        }
+        Some(self.owed.one_came(word))
     }
 
     /// The port below has answered the slot's next part.
@@ -82,10 +62,9 @@ impl Engine {
     fn accept(&mut self, command: Command)
         requires cuttable { (Cuttable self.old.cut) × ((1 ≤ host_width self.old) × (self.old.cut.share * host_width self.old ≤ 8)) }
         requires loadable { Loadable (host_width self.old) self.old.plain.burst command }
-        requires room { (length self.old.owed.bursts ≡ 16) × ((self.old.owed.count ≤ 16) × (RoomFor self.old.owed.count command)) }
+        requires room { RoomFor (length (bursts_in self.old.owed)) command }
         ensures slot { self.new.slot ≡ slot_for self.old.cut (host_width self.old) self.old.plain.burst command }
         ensures bursts { bursts_in self.new.owed ≡ bursts_in self.old.owed ++ burst_of command true }
-        ensures fits { (length self.new.owed.bursts ≡ 16) × (self.new.owed.count ≤ 16) }
         ensures same { (self.new.cut ≡ self.old.cut) × ((self.new.plain ≡ self.old.plain) × (self.new.collected ≡ self.old.collected)) }
     {
         self.slot = self
@@ -100,17 +79,16 @@ impl Engine {
     }
 
     /// A clocked call, when the port below has answered the slot's next part.
-    pub(crate) fn settle(&mut self, command: Command, taken: Reply, word: Option<Word>) -> Answer
+    pub(crate) fn settle(&mut self, command: Command, taken: Reply, word: Option<Word>) -> Clocked
         requires { (Workable self.old) × ((Due self.old word) × (Loadable (host_width self.old) self.old.plain.burst command)) }
-        ensures { SettledBy self.old command taken word result self.new }
+        ensures { Settled self.old command taken word result.0 result.1 self.new }
     {
         let reply = self.reply(command);
-        let given = self.collect(word);
+        let returned = self.collect(word);
         self.part_answered(taken);
         if let Reply::Take = reply {
             self.accept(command);
         }
-        self.plain.clock(command, reply, given.returned);
-        Answer::Clocked(reply, given.word)
+        self.plain.clock(command, reply, returned)
     }
 }

@@ -189,9 +189,6 @@ impl Slot {
     pub(crate) fn is_free(self) -> bool
         ensures { result ≡ is_free self }
     {
-        match self {
-            Slot::Empty => true,
-            _ => false,
-        }
+        matches!(self, Slot::Empty)
     }
 }

@@ -1,10 +1,11 @@
 //! What comes back to an adapter, and what it then owes.
 ghost use Rattle.std.specs.Prelude.{◌≡◌, ℕ, ◌+◌, ◌*◌, ◌/◌, ◌^◌, ◌<◌, ◌≤◌, [], ◌∷◌, ◌++◌, length, Some};
 ghost use Rattle.adapters.specs.Owed.{bursts_in, collected_with, lefts, next_owed, one_gone, whole_with};
-ghost use Rattle.port.specs.Legal.{Came};
+ghost use Rattle.port.specs.Legal.{Came, word_of};
 
 use crate::cut::{Cut, move_up};
 use crate::owed::{Collected, OwedBurst, OwedBursts};
+use arrayvec::ArrayVec;
 use port::addresses::WordOffset;
 use port::calls::Word;
 use port::record::Returned;
@@ -41,45 +42,37 @@ impl Collected {
 impl OwedBursts {
     /// None.
     pub(crate) fn new() -> OwedBursts
-        ensures { (bursts_in result ≡ []) × ((length result.bursts ≡ 16) × (result.count ≡ 0)) }
+        ensures { bursts_in result ≡ [] }
     {
         OwedBursts {
-            bursts: [OwedBurst {
-                next: WordOffset(0),
-                left: 0,
-            }; 16],
-            count: 0,
+            bursts: ArrayVec::new(),
         }
     }
 
     /// One burst more.
     pub(crate) fn push(&mut self, burst: OwedBurst)
-        requires { (length self.old.bursts ≡ 16) × (self.old.count < 16) }
-        ensures has { bursts_in self.new ≡ bursts_in self.old ++ (burst ∷ []) }
-        ensures fits { (length self.new.bursts ≡ 16) × (self.new.count ≡ self.old.count + 1) }
+        requires { length (bursts_in self.old) < 16 }
+        ensures { bursts_in self.new ≡ bursts_in self.old ++ (burst ∷ []) }
     {
-        self.bursts[self.count] = burst;
-        self.count += 1;
+        self.bursts.push(burst);
     }
 
     /// The host word that comes next; the first where none is owed.
     pub(crate) fn next(&self) -> WordOffset
-        requires { length self.now.bursts ≡ 16 }
         ensures { result.0 ≡ next_owed (bursts_in self.now) }
     {
-        if self.count > 0 {
-            self.bursts[0].next
-        } else {
-            WordOffset(0)
+        match self.bursts.as_slice() {
+            [oldest, ..] => oldest.next,
+            [] => WordOffset(0),
         }
     }
 
     /// One word of the oldest burst has come; the burst is owed no more when it was its last.
-    pub(crate) fn one_came(&mut self) -> Returned
-        requires { (length self.old.bursts ≡ 16) × ((0 < self.old.count) × ((self.old.count ≤ 16) × (next_owed (bursts_in self.old) ≤ 32768))) }
+    pub(crate) fn one_came(&mut self, word: Word) -> Returned
+        requires { (0 < length (bursts_in self.old)) × (next_owed (bursts_in self.old) ≤ 32768) }
         ensures has { bursts_in self.new ≡ one_gone (bursts_in self.old) }
-        ensures fits { (length self.new.bursts ≡ 16) × (self.new.count ≤ self.old.count) }
-        ensures told { (x : ℕ) → Came result (Some x) (lefts (bursts_in self.old)) }
+        ensures gives { word_of result ≡ word }
+        ensures told { Came (Some result) (lefts (bursts_in self.old)) }
     {
         let OwedBurst { next, left } = self.bursts[0];
         if left > 1 {
@@ -87,11 +80,10 @@ impl OwedBursts {
                 next: WordOffset(next.0 + 1),
                 left: left - 1,
             };
-            Returned::Word
+            Returned::More(word)
         } else {
-            self.bursts.rotate_left(1);
-            self.count -= 1;
-            Returned::LastWord
+            self.bursts.remove(0);
+            Returned::Last(word)
         }
     }
 }

@@ -1,7 +1,6 @@
 //! Building the pile from the bottom up, and running a list of calls on it.
 ghost use Rattle.std.specs.Prelude.{◌≡◌, ◌≤◌, [], length, drop, Some, None, Ok, Err, nat_lt};
-ghost use Rattle.adapters.specs.Adapters.{fixed_over};
-ghost use Rattle.adapters.specs.Piles.{SoundPile, numbers_top, pile_refusal, state_on_top};
+ghost use Rattle.adapters.specs.Piles.{numbers_top, pile_refusal};
 ghost use Rattle.port.specs.Book.{after_calls, book};
 ghost use Rattle.port.specs.Machine.{broken, first_of};
 ghost use Rattle.port.specs.Refusals.{number_of};
@@ -20,22 +19,16 @@ fn build<U: Width, V: Width, P: Port>(
     below: P,
     limits: PileLimits,
 ) -> Result<Pile<P, U, V>, (Refusal, P)>
-    requires { P.Port.sound below }
     ensures { elim result [
-      | Ok x ↦ (pile_refusal (P.Port.fixed below) (P.Port.state below) U.Width.wide V.Width.wide limits ≡ None)
-          × SoundPile P.Port.sound P.Port.fixed P.Port.state U.Width.wide V.Width.wide x
-          × (fixed_over x ≡ numbers_top (P.Port.fixed below) U.Width.wide V.Width.wide limits)
-          × (state_on_top P.Port.state x ≡ reset (P.Port.state below).memory)
+      | Ok x ↦ (pile_refusal (P.fixed below) (P.state below) U.BYTES V.BYTES limits ≡ None)
+          × (⟦<Pile<P, U, V> as Port>⟧.fixed x ≡ numbers_top (P.fixed below) U.BYTES V.BYTES limits)
+          × (⟦<Pile<P, U, V> as Port>⟧.state x ≡ reset (P.state below).memory)
           × (x.below.below.below ≡ below)
-      | Err e ↦ (pile_refusal (P.Port.fixed below) (P.Port.state below) U.Width.wide V.Width.wide limits ≡ Some (number_of e.0)) × (e.1 ≡ below)
+      | Err e ↦ (pile_refusal (P.fixed below) (P.state below) U.BYTES V.BYTES limits ≡ Some (number_of e.0)) × (e.1 ≡ below)
     ] }
 {
-    let low = widener::<U, P>(below, limits.widener_burst, limits.widener_pending)?;
-    let middle = match splitter::<U, Adapter<P, U>>(
-        low,
-        limits.splitter_burst,
-        limits.splitter_pending,
-    ) {
+    let low = widener::<U, P>(below, limits.widener)?;
+    let middle = match splitter::<U, Adapter<P, U>>(low, limits.splitter) {
         Ok(middle) => middle,
         Err((refusal, low)) => return Err((refusal, low.into_below())),
     };
@@ -53,16 +46,14 @@ pub fn run_on_pile<U: Width, V: Width, P: Port>(
     calls: &[Command],
     answers: &mut [Answer],
 ) -> Result<Pile<P, U, V>, (Refusal, P)>
-    requires { P.Port.sound below }
     ensures { elim result [
-      | Ok x ↦ (pile_refusal (P.Port.fixed below) (P.Port.state below) U.Width.wide V.Width.wide limits ≡ None)
+      | Ok x ↦ (pile_refusal (P.fixed below) (P.state below) U.BYTES V.BYTES limits ≡ None)
           × (length calls.now ≤ length answers.old)
-          × SoundPile P.Port.sound P.Port.fixed P.Port.state U.Width.wide V.Width.wide x
-          × (fixed_over x ≡ numbers_top (P.Port.fixed below) U.Width.wide V.Width.wide limits)
-          × Served (numbers_top (P.Port.fixed below) U.Width.wide V.Width.wide limits) (P.Port.state below).memory (after_calls calls.now answers.new [])
-          × (book V.Width.wide (P.Port.state below).memory (after_calls calls.now answers.new []) ≡ state_on_top P.Port.state x)
+          × (⟦<Pile<P, U, V> as Port>⟧.fixed x ≡ numbers_top (P.fixed below) U.BYTES V.BYTES limits)
+          × Served (numbers_top (P.fixed below) U.BYTES V.BYTES limits) (P.state below).memory (after_calls calls.now answers.new [])
+          × (book V.BYTES (P.state below).memory (after_calls calls.now answers.new []) ≡ ⟦<Pile<P, U, V> as Port>⟧.state x)
           × (drop (length calls.now) answers.new ≡ drop (length calls.now) answers.old)
-      | Err e ↦ (first_of (pile_refusal (P.Port.fixed below) (P.Port.state below) U.Width.wide V.Width.wide limits) (broken (nat_lt (length answers.old) (length calls.now)) 10) ≡ Some (number_of e.0))
+      | Err e ↦ (first_of (pile_refusal (P.fixed below) (P.state below) U.BYTES V.BYTES limits) (broken (nat_lt (length answers.old) (length calls.now)) 10) ≡ Some (number_of e.0))
           × (e.1 ≡ below) × (answers.new ≡ answers.old)
     ] }
 {

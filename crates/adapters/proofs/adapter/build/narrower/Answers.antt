@@ -3,8 +3,6 @@ use Rattle.adapters.proofs.adapter.build.narrower.Goals as goal
 
 pub over-requires : goal.over-requires
 over-requires g c =
-    let x = c.args.below in (record {
-      sound = c.requires;
-      suited = narrow_suits (g.P.Port.fixed x) (g.P.Port.state x) c.status.result g.W.Width.wide c.width.result c.args.pending_limit c.in-Ok.cut
-          (g.P.Port.legal x c.requires).ranges g.met.W.Width.widths c.status.ensures c.width.ensures c.in-Ok.ensures.0 c.in-Ok.ensures.1;
-    })
+    let x = c.args.below in
+    narrow_suits (g.P.Port.fixed x) (g.P.Port.state x) c.status.result g.W.Width.BYTES c.BYTES.result c.args.pending_limit c.in-Ok.cut
+    (g.met.P.Port.legal x).ranges g.met.W.Width.widths c.status.ensures c.BYTES.ensures c.in-Ok.ensures.0 c.in-Ok.ensures.1

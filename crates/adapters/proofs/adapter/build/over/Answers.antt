@@ -3,20 +3,22 @@ use Rattle.port.specs.declared.record.PortRecord.{PortRecord}
 use Rattle.adapters.proofs.Building.{built, raised}
 use Rattle.adapters.proofs.adapter.build.over.Goals as goal
 
+pub invariant_of-result : goal.invariant_of-result
+invariant_of-result g c =
+    let x = c.args.below in
+    let n = g.P.Port.fixed x in
+    let σ = g.P.Port.state x in
+    let here = raised c.args.cut n σ c.status.result g.W.Width.BYTES c.BYTES.result c.args.limits.burst c.args.limits.pending c.in-Ok.engine c.status.ensures c.BYTES.ensures c.in-Ok.ensures in
+    let kept = built c.args.cut n σ g.W.Width.BYTES c.args.limits.burst c.args.limits.pending c.in-Ok.engine (g.met.P.Port.legal x) c.requires here.0 here.1 in
+    record { kept = ∣ kept.0 ∣₁; wide = ap (λ (r : PortRecord). r.numbers.width) (here.1.plain σ.memory) }
+
 pub returns-in-Ok : goal.returns-in-Ok
 returns-in-Ok g c =
     let x = c.args.below in
-    let cut = c.args.cut in
-    let b = c.args.burst_limit in
-    let p = c.args.pending_limit in
-    let e = c.in-Ok.engine in
     let n = g.P.Port.fixed x in
     let σ = g.P.Port.state x in
-    let v = g.W.Width.wide in
-    let here = raised cut n σ c.status-status.result v c.width.result b p e c.status-status.ensures c.width.ensures c.in-Ok.ensures in
-    let kept = built cut n σ v b p e (g.P.Port.legal x c.requires.sound) c.requires.suited here.0 here.1 in
-    let plain = here.1.plain σ.memory in (
+    let here = raised c.args.cut n σ c.status.result g.W.Width.BYTES c.BYTES.result c.args.limits.burst c.args.limits.pending c.in-Ok.engine c.status.ensures c.BYTES.ensures c.in-Ok.ensures in
+    let kept = built c.args.cut n σ g.W.Width.BYTES c.args.limits.burst c.args.limits.pending c.in-Ok.engine (g.met.P.Port.legal x) c.requires here.0 here.1 in (
       here.0,
-      record { under = c.requires.sound; kept = kept.0; wide = ap (λ (r : PortRecord). r.numbers.width) plain },
-      record { port = refl; numbers = ap (λ (r : PortRecord). r.numbers) plain; cut = here.1.cut; start = kept.1 },
+      record { port = refl; numbers = ap (λ (r : PortRecord). r.numbers) (here.1.plain σ.memory); cut = here.1.cut; start = kept.1 },
     )
