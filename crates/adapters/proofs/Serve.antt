@@ -109,6 +109,6 @@ served n m σ τ e e' command part t x a y legal kept free cut same called settl
 pub unrefused : (n : Numbers) (σ : State) (e : Engine) (part : Command) (number : ℕ) → Legal n σ → ∥ Kept n σ e ∥₁ → part ≡ next_part e.cut e.slot → refusal_in n σ part ≡ Some number → ⊥
 unrefused n σ e part number legal kept cut refused =
     ∥∥₁_elim kept (Prim.hlevel props) (λ k.
-      let free = part_free e.cut n e.plain.numbers e.slot σ.burst e.plain.burst σ.held k.fitted k.lined k.holding in
-      let here = ap (λ (p : Command). refusal_in n σ p) cut in
-      let z : ◌≡◌ {A = ℕ} 0 1 = cc in omega arith)
+    let free = part_free e.cut n e.plain.numbers e.slot σ.burst e.plain.burst σ.held k.fitted k.lined k.holding in
+    let here = ap (λ (p : Command). refusal_in n σ p) cut in
+    let z : ◌≡◌ {A = ℕ} 0 1 = cc in omega arith)

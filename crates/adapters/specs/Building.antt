@@ -1,5 +1,5 @@
 -- Over which ports an adapter can be built, and the numbers that it then has.
-use Rattle.std.specs.Prelude.{◌≡◌, ℕ, ◌*◌, ◌/◌, ◌≤◌, Bool, true, false, not, ◌&&◌, ◌||◌, ◌⊎◌, List, [], length, Some, None, Option, ◌==◌, nat_le, nat_lt}
+use Rattle.std.specs.Prelude.{◌≡◌, ℕ, ◌*◌, ◌/◌, ◌≤◌, Bool, true, false, not, ◌&&◌, ◌||◌, ◌⊎◌, List, [], Some, None, Option, ◌==◌, nat_le, nat_lt}
 use Rattle.adapters.specs.Adapters.{fixed_over, state_over}
 use Rattle.adapters.specs.Kept.{silence_above, wait_above}
 use Rattle.adapters.specs.Owed.{bursts_in}

@@ -10,7 +10,6 @@ use Rattle.port.specs.Legal.{Legal, tally}
 use Rattle.port.specs.Machine.{moved, refusal_in}
 use Rattle.port.specs.Runs.{takes}
 use Rattle.port.specs.State.{State}
-use Rattle.port.specs.Answers.{Answer, Clocked, Refused}
 use Rattle.port.specs.declared.calls.Command.{Command}
 use Rattle.port.specs.declared.calls.Command.TheVariants.{Idle, Read, Write}
 use Rattle.port.specs.declared.calls.OpenBurst.{OpenBurst}

@@ -64,12 +64,7 @@ fn wait_above(below: Numbers, parts: u8, burst_limit: u8) -> u64
 }
 
 /// The numbers of an adapter with words of `width` bytes over a port with the numbers `below`.
-fn numbers_above(
-    below: Numbers,
-    width: u8,
-    parts: u8,
-    limits: Limits,
-) -> Result<Numbers, Refusal>
+fn numbers_above(below: Numbers, width: u8, parts: u8, limits: Limits) -> Result<Numbers, Refusal>
     requires { (1 ≤ width) × (below.words * below.width ≤ 32768) }
     ensures { elim result [
       | Ok n ↦ (bound_rule (numbers_above parts below width limits.burst limits.pending) ≡ None) × (n ≡ numbers_above parts below width limits.burst limits.pending)
@@ -235,10 +230,7 @@ pub fn narrower<W: Width, P: Port>(
 }
 
 /// A port that takes longer or shorter bursts than the port below, with words of the same width.
-pub fn splitter<W: Width, P: Port>(
-    below: P,
-    limits: Limits,
-) -> Result<Adapter<P, W>, (Refusal, P)>
+pub fn splitter<W: Width, P: Port>(below: P, limits: Limits) -> Result<Adapter<P, W>, (Refusal, P)>
     ensures { elim result [
       | Ok x ↦ (split_refusal (P.fixed below) (P.state below) W.BYTES limits.burst limits.pending ≡ None)
           × BuiltOver below (split_numbers (P.fixed below) W.BYTES limits.burst limits.pending) (split_cut (P.fixed below)) x
@@ -253,10 +245,7 @@ pub fn splitter<W: Width, P: Port>(
 }
 
 /// A port with narrower words than the port below: several host words are one word there.
-pub fn widener<W: Width, P: Port>(
-    below: P,
-    limits: Limits,
-) -> Result<Adapter<P, W>, (Refusal, P)>
+pub fn widener<W: Width, P: Port>(below: P, limits: Limits) -> Result<Adapter<P, W>, (Refusal, P)>
     ensures { elim result [
       | Ok x ↦ (wide_refusal (P.fixed below) (P.state below) W.BYTES limits.burst limits.pending ≡ None)
           × BuiltOver below (wide_numbers (P.fixed below) W.BYTES limits.burst limits.pending) (wide_cut (P.fixed below) W.BYTES) x

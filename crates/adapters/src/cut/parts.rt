@@ -7,20 +7,20 @@ use crate::cut::{Cut, Slot};
 use port::addresses::WordOffset;
 use port::calls::{Command, OpenBurst, Word};
 
-/// A word moved up by some lanes, which leave it whole.
-pub(crate) fn move_up(word: Word, lanes: u8) -> Word
-    requires { (lanes < 8) × (word * 2 ^ (8 * lanes) < 2 ^ 64) }
-    ensures { result ≡ word * 2 ^ (8 * lanes) }
+/// A number moved up by some bits, which leave it whole.
+pub(crate) fn move_up(number: u64, bits: u8) -> u64
+    requires { (bits < 64) × (number * 2 ^ bits < 2 ^ 64) }
+    ensures { result ≡ number * 2 ^ bits }
 {
-    word << (8 * lanes)
+    number << bits
 }
 
-/// A mask moved up by some lanes, which leave it whole.
-fn move_mask_up(mask: u8, lanes: u8) -> u8
-    requires { (lanes < 8) × (mask * 2 ^ lanes < 256) }
-    ensures { result ≡ mask * 2 ^ lanes }
+/// The lowest bits of a number.
+fn low_bits(number: u64, bits: u8) -> u64
+    requires { bits ≤ 64 }
+    ensures { result ≡ number % 2 ^ bits }
 {
-    mask << lanes
+    (number as u128 % (1 << bits)) as u64
 }
 
 impl Cut {
@@ -43,22 +43,6 @@ impl Cut {
         }
     }
 
-    /// The lowest lanes of a mask, as many as a word below has.
-    fn low_mask(self, mask: u8) -> u8
-        requires { self.width ≤ 8 }
-        ensures { result ≡ mask % 2 ^ self.width }
-    {
-        (mask as u16 % (1 << self.width)) as u8
-    }
-
-    /// The lowest lanes of a word, as many as a word below has.
-    fn low_word(self, word: Word) -> Word
-        requires { self.width ≤ 8 }
-        ensures { result ≡ word % 2 ^ (8 * self.width) }
-    {
-        (word as u128 % (1 << (8 * self.width))) as u64
-    }
-
     /// By how many lanes a host word stands above the first lane of the word below in which it begins.
     fn lanes_up(self, width: u8, host: WordOffset) -> u8
         requires { (1 ≤ self.share) × (self.share * width ≤ 8) }
@@ -73,7 +57,7 @@ impl Cut {
         ensures { result ≡ lanes_of self width host.0 joined }
     {
         let up = self.lanes_up(width, host);
-        ((joined >> (8 * up)) as u128 % (1 << (8 * width))) as u64
+        low_bits(joined >> (8 * up), 8 * width)
     }
 
     /// The next part of a slot; idle where it is empty.
@@ -96,8 +80,8 @@ impl Cut {
             } => Command::Write {
                 offset: place,
                 count: self.burst_size(left) * self.parts as u16,
-                mask: self.low_mask(mask),
-                word: self.low_word(word),
+                mask: low_bits(mask as u64, self.width) as u8,
+                word: low_bits(word, 8 * self.width),
             },
         }
     }
@@ -151,8 +135,8 @@ impl Cut {
         Slot::Beat {
             place: self.below(host),
             parts: self.parts,
-            mask: move_mask_up(mask, up),
-            word: move_up(word, up),
+            mask: move_up(mask as u64, up) as u8,
+            word: move_up(word, 8 * up),
             left,
         }
     }

@@ -25,7 +25,7 @@ impl Collected {
         ensures has { self.new ≡ collected_with cut self.old part }
         ensures gives { result ≡ whole_with cut self.old part }
     {
-        let value = self.value + move_up(part, cut.width * self.count);
+        let value = self.value + move_up(part, 8 * (cut.width * self.count));
         if self.count + 1 < cut.parts {
             *self = Collected {
                 value,

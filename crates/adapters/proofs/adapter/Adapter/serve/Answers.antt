@@ -1,13 +1,12 @@
-use Rattle.std.proofs.Common.{◌≡◌, ap, ◌∙◌}
+use Rattle.std.proofs.Common.{ap, ◌∙◌}
 use Rattle.port.specs.Machine.{command_rule, hold_rule}
 use Rattle.port.specs.Refusals.{number_of}
 use Rattle.port.specs.declared.numbers.Numbers.{Numbers}
 use Rattle.port.proofs.Rules.{first_later}
 use Rattle.port.proofs.Tally.{words_below}
-use Rattle.adapters.specs.Above.{above}
 use Rattle.adapters.specs.Lawful.{legal_kept}
 use Rattle.adapters.proofs.Ready.{comes_due, loadable, works}
-use Rattle.adapters.proofs.Serve.{Served, served, unrefused}
+use Rattle.adapters.proofs.Serve.{served, unrefused}
 use Rattle.adapters.proofs.adapter.Adapter.serve.Goals as goal
 
 pub next_part-part-requires : goal.next_part-part-requires
