@@ -1,7 +1,7 @@
 -- An adapter that was built keeps what every adapter keeps.
-use Rattle.std.proofs.Common.{◌≡◌, ℕ, ◌*◌, ◌/◌, ◌%◌, ◌≤◌, Bool, true, false, not, ◌&&◌, eqb, ltb, leb, List, [], Some, None, Option, sym, refl, ap, ◌∙◌, subst, inl, inr, ⊎_elim, mul_assoc, mul_comm, mul-one, mul_right_comm, div-mul-le_self, mul-div_cancel, arith, pow_pos}
+use Rattle.std.proofs.Common.{◌≡◌, ℕ, ◌*◌, ◌/◌, ◌%◌, ◌≤◌, Bool, true, false, not, ◌&&◌, eqb, ltb, leb, List, [], Some, None, Option, sym, refl, ap, ◌∙◌, subst, inl, inr, ⊎_elim, mul_assoc, mul_comm, mul-one, mul_right_comm, one-mul, zero-mul, div-mul-le_self, mul-div_cancel, arith, pow_pos}
 use Rattle.std.proofs.lemmas.Nat.{le-div, mul-le}
-use Rattle.std.proofs.lemmas.Bool.{and_parts, eqb-true, false≢true, leb-true, ltb-false, not-false}
+use Rattle.std.proofs.lemmas.Bool.{and_parts, cases_lt, eqb-true, false≢true, leb-true, ltb-false, not-false}
 use Rattle.std.proofs.lemmas.Bool.Decides.{nat_tests}
 use Rattle.port.proofs.Rules.{first_later, first_sooner}
 use Rattle.port.proofs.Waiting.{at_rest as resting, due_none, legal_reset, whole}
@@ -143,7 +143,7 @@ keeps_fresh : (n n' : Numbers) (image : List ℕ) (σ : State) (c d : Cut) (s : 
 keeps_fresh n n' image σ c d s bs g r eσ ed es eb eg er fit legal = rw (eσ, ed, es, eb, eg, er) (reset_above n n' c image fit legal)
 
 -- what is built over a legal port keeps what every adapter keeps, at reset on the memory below
-pub built : (c : Cut) (n : Numbers) (σ : State) (v b p : ℕ) (e : Engine) → Legal n σ → Suited c n v b p → over_rule (numbers_above c.parts n v b p) (tally n σ) ≡ None → Fresh (numbers_above c.parts n v b p) c e →
+pub built : (c : Cut) (n : Numbers) (σ : State) (v b p : ℕ) (e : Engine) → Legal n σ → Suited c n v b p → over_rule (numbers_above c.parts n v b p) (tally n σ) ≡ None → Fresh (numbers_above c.parts n v b p) c v e →
     Kept n σ e × (above e σ ≡ reset σ.memory)
 built c n σ v b p e legal suited rule fresh =
     let n' = numbers_above c.parts n v b p in
@@ -152,16 +152,40 @@ built c n σ v b p e legal suited rule fresh =
     let at = resting n σ legal s.shut s.free s.none in
     let empty : ◌≡◌ {A = Collected} (record { value = e.collected.value; count = e.collected.count }) none_yet = cc (fresh.value, fresh.count) in
     let ranges = ranges_above c n v b p legal.ranges suited (tally n σ) s in
-    let both = keeps_fresh n n' σ.memory σ c e.cut e.slot (bursts_in e.owed) e.collected e.plain at fresh.cut fresh.slot fresh.bursts empty (fresh.plain σ.memory)
+    let both = keeps_fresh n n' σ.memory σ c e.shape.cut e.slot (bursts_in e.owed) e.collected e.plain at fresh.cut fresh.slot fresh.bursts empty (fresh.plain σ.memory)
     (fitted c n v b p legal.ranges suited) (legal_reset n' σ.memory ranges (legal.size ∙ sym all) legal.bytes) in
     (both.0, both.1)
 
 -- an engine over a port that told its status, with a width that told its bytes
 abbrev Raised : Cut → ℕ → ℕ → ℕ → PortRecord → Engine → Type 0
-Raised c v b p r e = (over_rule (numbers_above c.parts r.numbers v b p) r ≡ None) × Fresh (numbers_above c.parts r.numbers v b p) c e
+Raised c v b p r e = (over_rule (numbers_above c.parts r.numbers v b p) r ≡ None) × Fresh (numbers_above c.parts r.numbers v b p) c v e
 
 pub raised : (c : Cut) (n : Numbers) (σ : State) (r : PortRecord) (v u b p : ℕ) (e : Engine) → r ≡ tally n σ → u ≡ v → Raised c u b p r e → Raised c v b p (tally n σ) e
 raised c n σ r v u b p e er eu h = subst (λ j. Raised c j b p (tally n σ) e) eu (subst (λ q. Raised c u b p q e) er h)
+
+-- What a cut that suits is small enough for ----------------------------------------------------------
+
+pub record Small (c : Cut) (v : ℕ) : Type 0 where
+  pub some : (1 ≤ c.width) × ((1 ≤ c.parts) × ((1 ≤ c.share) × (1 ≤ v)))
+  pub few : (c.width ≤ 8) × ((c.parts ≤ 8) × (c.parts * c.width ≤ 8))
+  pub shared : c.share * v ≤ 8
+
+pub small : (c : Cut) (n : Numbers) (v b p : ℕ) → Suited c n v b p → Small c v
+small c n v b p suited =
+    let wide = some_wide v suited.wide in
+    let whole = mul-le 1 1 v c.share wide suited.share_some in
+    let bytes : c.width * c.parts ≤ 8 = subst (λ w. w * c.parts ≤ 8) (sym suited.below) suited.bytes_few in
+    let some : 1 ≤ c.width = elim (cases_lt 0 c.width) [
+      | inl lt ↦ lt
+      | inr none ↦ let z : c.width ≡ 0 = omega arith in absurd (omega (arith, whole, suited.widths, ap (λ w. w * c.parts) suited.below, ap (λ w. w * c.parts) z, zero-mul c.parts))
+    ] in
+    let width = mul-le c.width 1 c.width c.parts (omega arith) suited.parts_some in
+    let parts = mul-le 1 c.parts c.width c.parts some (omega arith) in
+    record {
+      some = (some, (suited.parts_some, (suited.share_some, wide)));
+      few = (omega (arith, width, bytes, mul-one c.width), (omega (arith, parts, bytes, one-mul c.parts), omega (arith, bytes, mul_comm c.parts c.width)));
+      shared = omega (arith, suited.widths, suited.bytes_few, mul_comm c.share v);
+    }
 
 -- Cuts that suit --------------------------------------------------------------------------------
 

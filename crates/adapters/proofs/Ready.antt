@@ -1,5 +1,5 @@
 -- What an adapter keeps is what its code asks.
-use Rattle.std.proofs.Common.{◌≡◌, ℕ, ◌+◌, ◌*◌, ◌^◌, ◌<◌, ◌≤◌, List, [], ◌∷◌, length, get_or, Some, None, Option, sym, ap, ◌∙◌, subst, inl, inr, mul_comm, zero-mul, mul-one, mul-add, arith}
+use Rattle.std.proofs.Common.{◌≡◌, ℕ, ◌+◌, ◌*◌, ◌^◌, ◌<◌, ◌≤◌, List, [], ◌∷◌, length, get_or, Some, None, Option, sym, ap, ◌∙◌, subst, inl, inr, zero-mul, mul-one, mul-add, arith}
 use Rattle.std.proofs.Math.Logic.{∥∥₁_elim}
 use Rattle.std.proofs.Props.{props}
 use Rattle.std.specs.Coded.{Unit-prop}
@@ -15,10 +15,10 @@ use Rattle.port.specs.declared.calls.OpenBurst.{OpenBurst}
 use Rattle.port.specs.declared.numbers.Numbers.{Numbers}
 use Rattle.port.specs.declared.record.PortRecord.{PortRecord}
 use Rattle.port.proofs.Rules.{first_sooner, opening_fits}
-use Rattle.port.proofs.Tally.{wide_some, words_below}
-use Rattle.adapters.specs.Cuts.{Cuttable, Loadable, Placed}
+use Rattle.port.proofs.Tally.{words_below}
+use Rattle.adapters.specs.Cuts.{Loadable, Placed}
 use Rattle.adapters.specs.Engine.{Due, Workable}
-use Rattle.adapters.specs.Kept.{BurstsWithin, Fitted, Kept, LinedUp, offsets_in_slot}
+use Rattle.adapters.specs.Kept.{BurstsWithin, Kept, LinedUp, offsets_in_slot}
 use Rattle.adapters.specs.Owed.{bursts_in, next_owed, offsets_in}
 use Rattle.adapters.specs.declared.adapter.Engine.{Engine}
 use Rattle.adapters.specs.declared.cut.Cut.{Cut}
@@ -26,22 +26,6 @@ use Rattle.adapters.specs.declared.cut.Slot.{Slot}
 use Rattle.adapters.specs.declared.cut.Slot.TheVariants.{Empty, Reading, Beat}
 use Rattle.adapters.specs.declared.owed.OwedBurst.{OwedBurst}
 use Rattle.adapters.proofs.Replies.{LanesFit, write_fits}
-
-pub cuttable : (c : Cut) (n n' : Numbers) (σ : State) → Legal n σ → Fitted c n n' → Cuttable c
-cuttable c n n' σ legal fitted =
-    let some = wide_some n.width legal.ranges.wide in
-    let wide : 1 ≤ c.width = omega (arith, some.0, fitted.below) in
-    let turn = mul_comm c.width c.parts in
-    let k = mul-le c.parts 1 c.parts c.width (omega arith) wide in
-    let m = mul-le c.most 1 c.most c.parts (omega arith) fitted.parts_some in (
-      wide,
-      fitted.share_some,
-      fitted.parts_some,
-      omega (arith, fitted.bytes_few),
-      omega (arith, fitted.bytes_few, mul-one c.parts),
-      omega (arith, some.1, fitted.below),
-      omega (arith, fitted.burst_fits, legal.ranges.beats_few, mul-one c.most),
-    )
 
 pub placed : (c : Cut) (n n' : Numbers) (s : Slot) (b b' : Option OpenBurst) → n.words ≤ 32768 → n'.words ≤ 32768 → LinedUp c n n' s b b' → Placed c s
 placed c n n' Empty b b' below-few above-few lined = tt
@@ -56,23 +40,20 @@ near size (b ∷ bs) few within = omega (arith, within.1)
 parts_fit : (w g k : ℕ) → g < k → w * k ≤ 8 → w * g + w ≤ 8
 parts_fit w g k lt few = let h = mul-le w (g + 1) w k (omega arith) (omega arith) in omega (arith, mul-add w g 1, mul-one w)
 
-workable : (n : Numbers) (σ : State) (e : Engine) → Legal n σ → Kept n σ e → Workable e
-workable n σ e legal kept =
+workable : (n : Numbers) (σ : State) (e : Engine) → Legal n σ → e.shape.width ≡ e.plain.numbers.width → Kept n σ e → Workable e
+workable n σ e legal same kept =
     let k = kept in
     let f = k.fitted in
     let n' = e.plain.numbers in
-    let above = wide_some n'.width k.legal.ranges.wide in
     let few = words_below n' k.legal.ranges in
     record {
-      cuttable = cuttable e.cut n n' σ legal f;
-      wide = above.0;
-      shared = omega (arith, f.widths, f.bytes_few, mul_comm n'.width e.cut.share);
-      placed = placed e.cut n n' e.slot σ.burst e.plain.burst (words_below n legal.ranges) few k.lined;
+      wide = same;
+      placed = placed e.shape.cut n n' e.slot σ.burst e.plain.burst (words_below n legal.ranges) few k.lined;
       pending = k.legal.ranges.pending_few;
       tallied = ap (λ (p : PortRecord). p.bursts_owed) k.tallied ∙ length-map (bursts_in e.owed) (λ b. b.left);
       near = near n'.words (bursts_in e.owed) few k.bursts_within;
       parts_few = k.parts_few;
-      parts_fit = parts_fit e.cut.width e.collected.count e.cut.parts k.parts_few f.bytes_few;
+      parts_fit = parts_fit e.shape.cut.width e.collected.count e.shape.cut.parts k.parts_few f.bytes_few;
       value_fits = k.value_fits;
     }
 
@@ -81,8 +62,8 @@ placed_prop c Empty = Unit-prop
 placed_prop c (Reading h n) = Prim.hlevel props
 placed_prop c (Beat o p m d n) = Prim.hlevel props
 
-pub works : (n : Numbers) (σ : State) (e : Engine) → Legal n σ → ∥ Kept n σ e ∥₁ → Workable e
-works n σ e legal kept = ∥∥₁_elim kept (Prim.hlevel (props, placed_prop e.cut e.slot)) (workable n σ e legal)
+pub works : (n : Numbers) (σ : State) (e : Engine) → Legal n σ → e.shape.width ≡ e.plain.numbers.width → ∥ Kept n σ e ∥₁ → Workable e
+works n σ e legal same kept = ∥∥₁_elim kept (Prim.hlevel (props, placed_prop e.shape.cut e.slot)) (workable n σ e legal same)
 
 -- a word that comes was owed
 came_small : (limit x : ℕ) (owed : List ℕ) → First (Some x) owed → ((i : ℕ) → get_or owed i 0 < limit) → (x < limit) × (0 < length owed)
@@ -102,7 +83,7 @@ due n σ e (Some x) legal kept first =
     let small = subst (λ w. x < 2 ^ (8 * w)) (sym k.fitted.below) came.0 in
     let asked : 0 < length k.requested = elim (cases_lt 0 (length k.requested)) [
       | inl some ↦ some
-      | inr none ↦ let z : length k.requested ≡ 0 = omega arith in absurd (omega (arith, k.grouped, ap (λ i. i * e.cut.parts) z, zero-mul e.cut.parts))
+      | inr none ↦ let z : length k.requested ≡ 0 = omega arith in absurd (omega (arith, k.grouped, ap (λ i. i * e.shape.cut.parts) z, zero-mul e.shape.cut.parts))
     ] in
     let all : 0 < length (offsets_in (bursts_in e.owed)) = omega (arith, ap (λ (xs : List ℕ). length xs) k.queued, length-append k.requested (offsets_in_slot e.slot)) in
     let some = some_bursts (bursts_in e.owed) all in

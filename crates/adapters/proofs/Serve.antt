@@ -17,6 +17,7 @@ use Rattle.adapters.specs.Kept.{Keeps, Kept}
 use Rattle.adapters.specs.Owed.{bursts_in, lefts}
 use Rattle.adapters.specs.declared.adapter.Engine.{Engine}
 use Rattle.adapters.specs.declared.cut.Cut.{Cut}
+use Rattle.adapters.specs.declared.cut.Shape.{Shape}
 use Rattle.adapters.specs.declared.cut.Slot.{Slot}
 use Rattle.adapters.specs.declared.owed.Collected.{Collected}
 use Rattle.adapters.specs.declared.owed.OwedBurst.{OwedBurst}
@@ -44,13 +45,13 @@ pub record Left (m : Numbers) (τ : State) (σ' : State) (e e' : Engine) (comman
   pub moves : Clocks e.plain.numbers σ' command a y (above e' τ)
 
 -- the call below, in the terms of the slot
-moved_below : (n : Numbers) (σ τ : State) (e : Engine) (part : Command) (t : Reply) (x : Option ℕ) → e.cut.width ≡ n.width → part ≡ next_part e.cut e.slot → τ ≡ moved n.width σ part t x →
-    τ ≡ acted e.cut.width (next_part e.cut e.slot) t (given x σ)
+moved_below : (n : Numbers) (σ τ : State) (e : Engine) (part : Command) (t : Reply) (x : Option ℕ) → e.shape.cut.width ≡ n.width → part ≡ next_part e.shape.cut e.slot → τ ≡ moved n.width σ part t x →
+    τ ≡ acted e.shape.cut.width (next_part e.shape.cut e.slot) t (given x σ)
 moved_below n σ τ e part t x wide is moves =
-    moves ∙ (ap (λ (c : Command). acted n.width c t (given x σ)) is ∙ ap (λ w. acted w (next_part e.cut e.slot) t (given x σ)) (sym wide))
+    moves ∙ (ap (λ (c : Command). acted n.width c t (given x σ)) is ∙ ap (λ w. acted w (next_part e.shape.cut e.slot) t (given x σ)) (sym wide))
 
 step_of : (n : Numbers) (σ τ : State) (e e' : Engine) (command part : Command) (t : Reply) (x : Option ℕ) (a : Reply) (y : Option ℕ) → Legal n σ → Kept n σ e → refusal_in e.plain.numbers (above e σ) command ≡ None →
-    part ≡ next_part e.cut e.slot → Clocks n σ part t x τ → Settled e command t x a y e' → Step n σ e.cut e.slot (bursts_in e.owed) e.collected e.plain command t x a y
+    part ≡ next_part e.shape.cut e.slot → Clocks n σ part t x τ → Settled e command t x a y e' → Step n σ e.shape.cut e.slot (bursts_in e.owed) e.collected e.plain command t x a y
 step_of n σ τ e e' command part t x a y legal kept free is called settled =
     let bs = bursts_in e.owed in
     let n' = e.plain.numbers in
@@ -63,13 +64,13 @@ step_of n σ τ e e' command part t x a y legal kept free is called settled =
       answers = subst (λ (c : Command). Answers c t) is called.answers;
       first = called.first;
       within = subst (Within n) (moved_below n σ τ e part t x kept.fitted.below is called.moves) called.within;
-      why = subst (Why e.slot (length (lefts bs)) n'.pending_limit command) (sym replies) (why_of e.cut n n' e.slot σ.burst e.plain.burst (length (lefts bs)) n'.pending_limit command kept.lined);
+      why = subst (Why e.slot (length (lefts bs)) n'.pending_limit command) (sym replies) (why_of e.shape.cut n n' e.slot σ.burst e.plain.burst (length (lefts bs)) n'.pending_limit command kept.lined);
       in_kind = subst (Answers command) (sym replies) (in_kind e.slot (length (lefts bs)) n'.pending_limit command);
       word = settled.word;
     }
 
 left : (n m : Numbers) (σ τ : State) (e e' : Engine) (command part : Command) (t : Reply) (x : Option ℕ) (a : Reply) (y : Option ℕ) →
-    Legal n σ → Kept n σ e → refusal_in e.plain.numbers (above e σ) command ≡ None → part ≡ next_part e.cut e.slot →
+    Legal n σ → Kept n σ e → refusal_in e.plain.numbers (above e σ) command ≡ None → part ≡ next_part e.shape.cut e.slot →
     m ≡ n → Clocks n σ part t x τ → Settled e command t x a y e' → Left m τ (above e σ) e e' command a y
 left n m σ τ e e' command part t x a y legal kept free cut same called settled =
     let n' = e.plain.numbers in
@@ -78,14 +79,14 @@ left n m σ τ e e' command part t x a y legal kept free cut same called settled
     let plain : e'.plain ≡ tally n' (moved n'.width (above e σ) command a y) = settled.plain n' (above e σ) kept.tallied kept.legal free refl in
     let down = moved_below n σ τ e part t x kept.fitted.below cut called.moves in
     record {
-      kept = same_keeps n m _ e'.cut _ e'.slot _ (bursts_in e'.owed) _ e'.collected _ e'.plain _ τ
-          (sym same) (sym settled.same_cut) (sym settled.slot) (sym settled.bursts) (sym settled.collected) (sym plain) (sym down)
-          (keeps_after n σ e.cut e.slot bs e.collected e.plain command t x a y step);
+      kept = same_keeps n m _ e'.shape.cut _ e'.slot _ (bursts_in e'.owed) _ e'.collected _ e'.plain _ τ
+          (sym same) (sym (ap (λ (s : Shape). s.cut) settled.same_shape)) (sym settled.slot) (sym settled.bursts) (sym settled.collected) (sym plain) (sym down)
+          (keeps_after n σ e.shape.cut e.slot bs e.collected e.plain command t x a y step);
       fixed = ap (λ (p : PortRecord). p.numbers) plain;
       moves = subst (Clocks n' (above e σ) command a y)
-          (same_above _ e'.cut _ e'.slot _ (bursts_in e'.owed) _ e'.collected _ e'.plain _ τ
-          (sym settled.same_cut) (sym settled.slot) (sym settled.bursts) (sym settled.collected) (sym plain) (sym down))
-          (clocks_after n σ e.cut e.slot bs e.collected e.plain command t x a y step);
+          (same_above _ e'.shape.cut _ e'.slot _ (bursts_in e'.owed) _ e'.collected _ e'.plain _ τ
+          (sym (ap (λ (s : Shape). s.cut) settled.same_shape)) (sym settled.slot) (sym settled.bursts) (sym settled.collected) (sym plain) (sym down))
+          (clocks_after n σ e.shape.cut e.slot bs e.collected e.plain command t x a y step);
     }
 
 -- the same, where an adapter is known to keep this, and not how
@@ -95,7 +96,7 @@ pub record Served (m : Numbers) (τ : State) (σ' : State) (e e' : Engine) (comm
   pub moves : Clocks e.plain.numbers σ' command a y (above e' τ)
 
 pub served : (n m : Numbers) (σ τ : State) (e e' : Engine) (command part : Command) (t : Reply) (x : Option ℕ) (a : Reply) (y : Option ℕ) →
-    Legal n σ → ∥ Kept n σ e ∥₁ → refusal_in e.plain.numbers (above e σ) command ≡ None → part ≡ next_part e.cut e.slot →
+    Legal n σ → ∥ Kept n σ e ∥₁ → refusal_in e.plain.numbers (above e σ) command ≡ None → part ≡ next_part e.shape.cut e.slot →
     m ≡ n → Clocks n σ part t x τ → Settled e command t x a y e' → Served m τ (above e σ) e e' command a y
 served n m σ τ e e' command part t x a y legal kept free cut same called settled =
     let all : ∥ Left m τ (above e σ) e e' command a y ∥₁ = ∥∥₁_map kept (λ k. left n m σ τ e e' command part t x a y legal k free cut same called settled) in
@@ -106,9 +107,9 @@ served n m σ τ e e' command part t x a y legal kept free cut same called settl
     }
 
 -- no part is refused below
-pub unrefused : (n : Numbers) (σ : State) (e : Engine) (part : Command) (number : ℕ) → Legal n σ → ∥ Kept n σ e ∥₁ → part ≡ next_part e.cut e.slot → refusal_in n σ part ≡ Some number → ⊥
+pub unrefused : (n : Numbers) (σ : State) (e : Engine) (part : Command) (number : ℕ) → Legal n σ → ∥ Kept n σ e ∥₁ → part ≡ next_part e.shape.cut e.slot → refusal_in n σ part ≡ Some number → ⊥
 unrefused n σ e part number legal kept cut refused =
     ∥∥₁_elim kept (Prim.hlevel props) (λ k.
-    let free = part_free e.cut n e.plain.numbers e.slot σ.burst e.plain.burst σ.held k.fitted k.lined k.holding in
+    let free = part_free e.shape.cut n e.plain.numbers e.slot σ.burst e.plain.burst σ.held k.fitted k.lined k.holding in
     let here = ap (λ (p : Command). refusal_in n σ p) cut in
     let z : ◌≡◌ {A = ℕ} 0 1 = cc in omega arith)

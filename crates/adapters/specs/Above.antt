@@ -42,4 +42,4 @@ state_above c s bs g p σ =
 
 -- the state of an adapter over a port in this state
 abbrev pub above : Engine → State → State
-above e σ = state_above e.cut e.slot (bursts_in e.owed) e.collected e.plain σ
+above e σ = state_above e.shape.cut e.slot (bursts_in e.owed) e.collected e.plain σ

@@ -32,15 +32,15 @@ module _ {P W V : Type 0} {p : port.Ghosts P V} {v : width.Ghosts V} {w : width.
 pub record CallsOnce (n : Numbers) (σ τ : State) (timed : Command → Answer → Type 0) (was is : Engine) (c : Command) (a : Reply) (y : Option ℕ) : Type 0 where
   pub taken : Reply
   pub x : Option ℕ
-  pub called : Clocks n σ (next_part was.cut was.slot) taken x τ
-  pub in_time : timed (next_part was.cut was.slot) (Clocked taken x)
+  pub called : Clocks n σ (next_part was.shape.cut was.slot) taken x τ
+  pub in_time : timed (next_part was.shape.cut was.slot) (Clocked taken x)
   pub replies : a ≡ reply_above was.slot was.plain.bursts_owed was.plain.numbers.pending_limit c
   pub returns : y ≡ host_word was x
-  pub slot : is.slot ≡ slot_filled was.cut (host_width was) was.plain.burst c a (slot_sent was.cut taken was.slot)
+  pub slot : is.slot ≡ slot_filled was.shape.cut (host_width was) was.plain.burst c a (slot_sent was.shape.cut taken was.slot)
   -- the rest of its data, on which later calls depend
-  pub collects : is.collected ≡ collected_after was.cut was.collected x
+  pub collects : is.collected ≡ collected_after was.shape.cut was.collected x
   pub owes : bursts_in is.owed ≡ bursts_less y (bursts_in was.owed) ++ burst_of c (takes a)
-  pub cuts : is.cut ≡ was.cut
+  pub cuts : is.shape.cut ≡ was.shape.cut
 
 -- a refused call puts nothing below, and leaves the whole adapter as it was
 module _ {P W V : Type 0} {p : port.Ghosts P V} {v : width.Ghosts V} {w : width.Ghosts W} where

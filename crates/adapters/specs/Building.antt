@@ -131,9 +131,10 @@ pub record Suited (c : Cut) (n : Numbers) (v b p : ℕ) : Type 0 where
   pub pending_few : p ≤ 16
 
 -- an engine at reset
-pub record Fresh (n' : Numbers) (c : Cut) (e : Engine) : Type 0 where
+pub record Fresh (n' : Numbers) (c : Cut) (v : ℕ) (e : Engine) : Type 0 where
   pub plain : (image : List ℕ) → e.plain ≡ tally n' (reset image)
-  pub cut : e.cut ≡ c
+  pub cut : e.shape.cut ≡ c
+  pub width : e.shape.width ≡ v
   pub slot : e.slot ≡ Empty
   pub bursts : bursts_in e.owed ≡ []
   pub value : e.collected.value ≡ 0
@@ -144,5 +145,5 @@ module _ {P W V : Type 0} {p : port.Ghosts P V} {v : width.Ghosts V} {w : width.
   pub record BuiltOver (below : P) (n' : Numbers) (c : Cut) (x : Adapter P W V p v w) : Type 0 where
     pub port : x.below ≡ below
     pub numbers : fixed_over x ≡ n'
-    pub cut : x.engine.cut ≡ c
+    pub cut : x.engine.shape.cut ≡ c
     pub start : state_over x ≡ reset (p.state below).memory

@@ -71,10 +71,7 @@ parts_in (suc i) c (Beat o p m d n) = next_part c (Beat o p m d n) ∷ parts_in 
 abbrev pub parts_of : Cut → ℕ → Command → List Command
 parts_of c v command = parts_in (parts_due (slot_for c v None command)) c (slot_for c v None command)
 
--- The numbers are small enough for the sums in the code --------------------------------
-
-abbrev pub Cuttable : Cut → Type 0
-Cuttable c = (1 ≤ c.width) × (1 ≤ c.share) × (1 ≤ c.parts) × (c.parts * c.width ≤ 8) × (c.parts ≤ 8) × (c.width ≤ 8) × (c.most ≤ 64)
+-- What the code asks of its sums ---------------------------------------------------------
 
 abbrev pub Placed : Cut → Slot → Type 0
 Placed c Empty = Unit {0}

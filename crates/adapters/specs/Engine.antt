@@ -1,6 +1,6 @@
 -- What an adapter does in a clocked call with its own data, once the port below has answered.
 use Rattle.std.specs.Prelude.{◌≡◌, ℕ, ◌+◌, ◌*◌, ◌^◌, ◌<◌, ◌≤◌, Bool, cond, ◌&&◌, List, [], ◌∷◌, ◌++◌, length, Some, None, Option, nat_lt}
-use Rattle.adapters.specs.Cuts.{Cuttable, Placed, after_part, is_free, slot_for}
+use Rattle.adapters.specs.Cuts.{Placed, after_part, is_free, slot_for}
 use Rattle.adapters.specs.Owed.{bursts_in, collected_after, lefts, next_owed, one_gone, word_up}
 use Rattle.adapters.specs.declared.adapter.Engine.{Engine}
 use Rattle.adapters.specs.declared.cut.Cut.{Cut}
@@ -49,26 +49,24 @@ host_width e = e.plain.numbers.width
 
 -- the host word that a word from below, or none, makes whole
 abbrev pub host_word : Engine → Option ℕ → Option ℕ
-host_word e x = word_up e.cut (host_width e) (next_owed (bursts_in e.owed)) e.collected x
+host_word e x = word_up e.shape.cut (host_width e) (next_owed (bursts_in e.owed)) e.collected x
 
 -- What the code asks: its numbers are small, and its places are there ----------------------
 
 pub record Workable (e : Engine) : Type 0 where
-  pub cuttable : Cuttable e.cut
-  pub wide : 1 ≤ host_width e
-  pub shared : e.cut.share * host_width e ≤ 8
-  pub placed : Placed e.cut e.slot
+  pub wide : e.shape.width ≡ host_width e
+  pub placed : Placed e.shape.cut e.slot
   pub pending : e.plain.numbers.pending_limit ≤ 16
   pub tallied : e.plain.bursts_owed ≡ length (bursts_in e.owed)
   pub near : next_owed (bursts_in e.owed) ≤ 32768
-  pub parts_few : e.collected.count < e.cut.parts
-  pub parts_fit : e.cut.width * e.collected.count + e.cut.width ≤ 8
-  pub value_fits : e.collected.value < 2 ^ (8 * (e.cut.width * e.collected.count))
+  pub parts_few : e.collected.count < e.shape.cut.parts
+  pub parts_fit : e.shape.cut.width * e.collected.count + e.shape.cut.width ≤ 8
+  pub value_fits : e.collected.value < 2 ^ (8 * (e.shape.cut.width * e.collected.count))
 
 -- a word that comes from below fits its width, and belongs to a read burst that is owed
 abbrev pub Due : Engine → Option ℕ → Type 0
 Due e None = Unit {0}
-Due e (Some x) = (x < 2 ^ (8 * e.cut.width)) × (0 < length (bursts_in e.owed))
+Due e (Some x) = (x < 2 ^ (8 * e.shape.cut.width)) × (0 < length (bursts_in e.owed))
 
 -- there is a place for the burst of a read
 abbrev pub RoomFor : ℕ → Command → Type 0
@@ -81,9 +79,9 @@ RoomFor bursts (Write o n m d) = Unit {0}
 -- a word from below, or none, and what it makes whole
 pub record Collects (e : Engine) (x y : Option ℕ) (e' : Engine) : Type 0 where
   pub word : y ≡ host_word e x
-  pub collected : e'.collected ≡ collected_after e.cut e.collected x
+  pub collected : e'.collected ≡ collected_after e.shape.cut e.collected x
   pub bursts : bursts_in e'.owed ≡ bursts_less y (bursts_in e.owed)
-  pub same_cut : e'.cut ≡ e.cut
+  pub same_shape : e'.shape ≡ e.shape
   pub same_slot : e'.slot ≡ e.slot
   pub same_plain : e'.plain ≡ e.plain
 
@@ -91,8 +89,8 @@ pub record Collects (e : Engine) (x y : Option ℕ) (e' : Engine) : Type 0 where
 pub record Settled (e : Engine) (c : Command) (taken : Reply) (x : Option ℕ) (a : Reply) (y : Option ℕ) (e' : Engine) : Type 0 where
   pub replies : a ≡ reply_above e.slot e.plain.bursts_owed e.plain.numbers.pending_limit c
   pub word : y ≡ host_word e x
-  pub collected : e'.collected ≡ collected_after e.cut e.collected x
+  pub collected : e'.collected ≡ collected_after e.shape.cut e.collected x
   pub bursts : bursts_in e'.owed ≡ bursts_less y (bursts_in e.owed) ++ burst_of c (takes a)
-  pub same_cut : e'.cut ≡ e.cut
-  pub slot : e'.slot ≡ slot_filled e.cut (host_width e) e.plain.burst c a (slot_sent e.cut taken e.slot)
+  pub same_shape : e'.shape ≡ e.shape
+  pub slot : e'.slot ≡ slot_filled e.shape.cut (host_width e) e.plain.burst c a (slot_sent e.shape.cut taken e.slot)
   pub plain : (n : Numbers) (σ : State) → e.plain ≡ tally n σ → Legal n σ → refusal_in n σ c ≡ None → σ.reads ≡ lefts (bursts_in e.owed) → e'.plain ≡ tally n (moved n.width σ c a y)

@@ -119,4 +119,4 @@ pub record Keeps (n : Numbers) (σ : State) (c : Cut) (s : Slot) (bs : List Owed
 
 abbrev pub Kept : Numbers → State → Engine → Type 0
 Kept n σ e =
-    Keeps n σ e.cut e.slot (bursts_in e.owed) e.collected e.plain
+    Keeps n σ e.shape.cut e.slot (bursts_in e.owed) e.collected e.plain

@@ -2,7 +2,7 @@
 ghost use Rattle.std.specs.Prelude.{◌≡◌};
 ghost use Rattle.adapters.specs.Kept.{Kept};
 
-use crate::cut::{Cut, Slot};
+use crate::cut::{Shape, Slot};
 use crate::owed::{Collected, OwedBursts};
 use port::ports::Port;
 use port::record::PortRecord;
@@ -19,7 +19,7 @@ pub use build::{narrower, splitter, widener};
 #[derive(Drop)]
 pub(crate) struct Engine {
     plain: PortRecord,
-    cut: Cut,
+    shape: Shape,
     slot: Slot,
     owed: OwedBursts,
     collected: Collected,
@@ -33,4 +33,5 @@ pub struct Adapter<P: Port, W: Width> {
     width: PhantomData<W>,
     ghost kept: { ∥ Kept (P.fixed below) (P.state below) engine ∥₁ },
     ghost wide: { engine.plain.numbers.width ≡ W.BYTES },
+    ghost shaped: { engine.shape.width ≡ W.BYTES },
 }

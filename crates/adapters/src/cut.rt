@@ -1,4 +1,6 @@
 //! How an adapter cuts the commands of its host into commands for the port below: its parts.
+ghost use Rattle.std.specs.Prelude.{◌*◌, ◌≤◌};
+
 use port::addresses::WordOffset;
 use port::calls::Word;
 
@@ -17,6 +19,16 @@ pub(crate) struct Cut {
     pub share: u8,
     /// The most host words in one burst below.
     pub most: u8,
+}
+
+/// How an adapter cuts for a host with words of `width` bytes. The numbers are small enough for the sums in the code.
+#[derive(Clone, Copy)]
+pub(crate) struct Shape {
+    pub cut: Cut,
+    pub width: u8,
+    ghost some: { (1 ≤ cut.width) × ((1 ≤ cut.parts) × ((1 ≤ cut.share) × (1 ≤ width))) },
+    ghost few: { (cut.width ≤ 8) × ((cut.parts ≤ 8) × (cut.parts * cut.width ≤ 8)) },
+    ghost shared: { cut.share * width ≤ 8 },
 }
 
 /// A taken command, as far as its parts have not been taken below.

@@ -6,7 +6,7 @@ ghost use Rattle.port.specs.Legal.{tally};
 ghost use Rattle.port.specs.Refusals.{number_of};
 
 use crate::adapter::{Adapter, Engine};
-use crate::cut::{Cut, Slot};
+use crate::cut::{Cut, Shape, Slot};
 use crate::owed::{Collected, OwedBursts};
 use port::calls::Refusal;
 use port::numbers::{Limits, Numbers};
@@ -150,12 +150,12 @@ fn wide_cut(below: Numbers, width: u8, limits: Limits) -> Result<Cut, Refusal>
 
 impl Engine {
     /// An engine at reset.
-    fn new(numbers: Numbers, cut: Cut) -> Engine
-        ensures { Fresh numbers cut result }
+    fn new(numbers: Numbers, shape: Shape) -> Engine
+        ensures { Fresh numbers shape.cut shape.width result }
     {
         Engine {
             plain: PortRecord::new(numbers),
-            cut,
+            shape,
             slot: Slot::Empty,
             owed: OwedBursts::new(),
             collected: Collected::new(),
@@ -164,10 +164,11 @@ impl Engine {
 
     /// An engine at reset over a port with this status, if the port serves it.
     fn over(status: PortRecord, width: u8, cut: Cut, limits: Limits) -> Result<Engine, Refusal>
-        requires { (1 ≤ width) × (status.numbers.words * status.numbers.width ≤ 32768) }
+        requires suited { Suited cut status.numbers width limits.burst limits.pending }
+        requires small { status.numbers.words * status.numbers.width ≤ 32768 }
         ensures { elim result [
           | Ok x ↦ (over_rule (numbers_above cut.parts status.numbers width limits.burst limits.pending) status ≡ None)
-              × Fresh (numbers_above cut.parts status.numbers width limits.burst limits.pending) cut x
+              × Fresh (numbers_above cut.parts status.numbers width limits.burst limits.pending) cut width x
           | Err e ↦ over_rule (numbers_above cut.parts status.numbers width limits.burst limits.pending) status ≡ Some (number_of e)
         ] }
     {
@@ -175,7 +176,7 @@ impl Engine {
             return Err(Refusal::PortBelow);
         }
         let numbers = numbers_above(status.numbers, width, cut.parts, limits)?;
-        Ok(Engine::new(numbers, cut))
+        Ok(Engine::new(numbers, Shape { cut, width }))
     }
 }
 

@@ -18,7 +18,7 @@ impl<P: Port, W: Width> Adapter<P, W> {
         ensures moves { Clocks (fixed_over self.old) (state_over self.old) command result.0 result.1 (state_over self.new) }
         ensures timing { TimedOver self.old command (Ok (result.0, result.1)) self.new }
     {
-        let part = self.engine.cut.next_part(self.engine.slot);
+        let part = self.engine.shape.next_part(self.engine.slot);
         match self.below.clock(part) {
             Ok((taken, word)) => self.engine.settle(command, taken, word),
             // no part is refused below

@@ -1,6 +1,6 @@
 //! What an adapter does with its own data in a clocked call.
 ghost use Rattle.std.specs.Prelude.{◌≡◌, ◌*◌, ◌≤◌, true, ◌++◌, length, Some, None};
-ghost use Rattle.adapters.specs.Cuts.{Cuttable, Loadable, Placed, slot_for};
+ghost use Rattle.adapters.specs.Cuts.{Loadable, Placed, slot_for};
 ghost use Rattle.adapters.specs.Engine.{Collects, Due, RoomFor, Settled, Workable, burst_of, host_width, reply_above, slot_sent};
 ghost use Rattle.adapters.specs.Owed.{bursts_in, lefts};
 ghost use Rattle.port.specs.Legal.{Came, came_word};
@@ -36,40 +36,37 @@ impl Engine {
         ensures collects { Collects self.old word (came_word result) self.new }
         ensures told { Came result (lefts (bursts_in self.old.owed)) }
     {
-        let joined = self.collected.add(self.cut, word?)?;
+        let joined = self.collected.add(self.shape, word?)?;
         let host = self.owed.next();
-        let word = self.cut.lanes_of(self.plain.numbers.width, host, joined);
+        let word = self.shape.lanes_of(host, joined);
         Some(self.owed.one_came(word))
     }
 
     /// The port below has answered the slot's next part.
     fn part_answered(&mut self, taken: Reply)
-        requires { (Cuttable self.old.cut) × (Placed self.old.cut self.old.slot) }
+        requires { Placed self.old.shape.cut self.old.slot }
         ensures { self.new ≡ record {
           plain = self.old.plain;
-          cut = self.old.cut;
-          slot = slot_sent self.old.cut taken self.old.slot;
+          shape = self.old.shape;
+          slot = slot_sent self.old.shape.cut taken self.old.slot;
           owed = self.old.owed;
           collected = self.old.collected;
         } }
     {
         if let Reply::Take = taken {
-            self.slot = self.cut.after_part(self.slot);
+            self.slot = self.shape.after_part(self.slot);
         }
     }
 
     /// Takes a command into the slot, which is free.
     fn accept(&mut self, command: Command)
-        requires cuttable { (Cuttable self.old.cut) × ((1 ≤ host_width self.old) × (self.old.cut.share * host_width self.old ≤ 8)) }
-        requires loadable { Loadable (host_width self.old) self.old.plain.burst command }
+        requires loadable { Loadable self.old.shape.width self.old.plain.burst command }
         requires room { RoomFor (length (bursts_in self.old.owed)) command }
-        ensures slot { self.new.slot ≡ slot_for self.old.cut (host_width self.old) self.old.plain.burst command }
+        ensures slot { self.new.slot ≡ slot_for self.old.shape.cut self.old.shape.width self.old.plain.burst command }
         ensures bursts { bursts_in self.new.owed ≡ bursts_in self.old.owed ++ burst_of command true }
-        ensures same { (self.new.cut ≡ self.old.cut) × ((self.new.plain ≡ self.old.plain) × (self.new.collected ≡ self.old.collected)) }
+        ensures same { (self.new.shape ≡ self.old.shape) × ((self.new.plain ≡ self.old.plain) × (self.new.collected ≡ self.old.collected)) }
     {
-        self.slot = self
-            .cut
-            .slot_for(self.plain.numbers.width, self.plain.burst, command);
+        self.slot = self.shape.slot_for(self.plain.burst, command);
         if let Command::Read { offset, count } = command {
             self.owed.push(OwedBurst {
                 next: offset,
@@ -80,7 +77,7 @@ impl Engine {
 
     /// A clocked call, when the port below has answered the slot's next part.
     pub(crate) fn settle(&mut self, command: Command, taken: Reply, word: Option<Word>) -> Clocked
-        requires { (Workable self.old) × ((Due self.old word) × (Loadable (host_width self.old) self.old.plain.burst command)) }
+        requires { (Workable self.old) × ((Due self.old word) × (Loadable self.old.shape.width self.old.plain.burst command)) }
         ensures { Settled self.old command taken word result.0 result.1 self.new }
     {
         let reply = self.reply(command);

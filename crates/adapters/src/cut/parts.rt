@@ -1,9 +1,9 @@
 //! The parts of a slot, and the slot that a command fills.
 ghost use Rattle.std.specs.Prelude.{◌≡◌, ◌+◌, ◌*◌, ◌%◌, ◌^◌, ◌<◌, ◌≤◌};
 ghost use Rattle.adapters.specs.Owed.{lanes_of};
-ghost use Rattle.adapters.specs.Cuts.{Cuttable, Loadable, Placed, after_part, beat_slot, in_one_burst, is_free, lanes_up, next_part, offset_below, slot_for};
+ghost use Rattle.adapters.specs.Cuts.{Loadable, Placed, after_part, beat_slot, in_one_burst, is_free, lanes_up, next_part, offset_below, slot_for};
 
-use crate::cut::{Cut, Slot};
+use crate::cut::{Shape, Slot};
 use port::addresses::WordOffset;
 use port::calls::{Command, OpenBurst, Word};
 
@@ -23,53 +23,51 @@ fn low_bits(number: u64, bits: u8) -> u64
     (number as u128 % (1 << bits)) as u64
 }
 
-impl Cut {
+impl Shape {
     /// The word below in which a host word begins.
     fn below(self, host: WordOffset) -> WordOffset
-        requires { (host.0 ≤ 32768) × ((self.parts ≤ 8) × (1 ≤ self.share)) }
-        ensures { result.0 ≡ offset_below self host.0 }
+        requires { host.0 ≤ 32768 }
+        ensures { result.0 ≡ offset_below self.cut host.0 }
     {
-        WordOffset(host.0 * self.parts as u32 / self.share as u32)
+        WordOffset(host.0 * self.cut.parts as u32 / self.cut.share as u32)
     }
 
     /// How many of `left` host words go into the next burst below.
     fn burst_size(self, left: u16) -> u16
-        ensures { (result ≡ in_one_burst self left) × (result ≤ self.most) }
+        ensures { (result ≡ in_one_burst self.cut left) × (result ≤ self.cut.most) }
     {
-        if left > self.most as u16 {
-            self.most as u16
+        if left > self.cut.most as u16 {
+            self.cut.most as u16
         } else {
             left
         }
     }
 
     /// By how many lanes a host word stands above the first lane of the word below in which it begins.
-    fn lanes_up(self, width: u8, host: WordOffset) -> u8
-        requires { (1 ≤ self.share) × (self.share * width ≤ 8) }
-        ensures { (result ≡ lanes_up self width host.0) × (result + width ≤ self.share * width) }
+    fn lanes_up(self, host: WordOffset) -> u8
+        ensures { (result ≡ lanes_up self.cut self.width host.0) × (result + self.width ≤ self.cut.share * self.width) }
     {
-        (host.0 % self.share as u32) as u8 * width
+        (host.0 % self.cut.share as u32) as u8 * self.width
     }
 
     /// The host word in the joined words below.
-    pub(crate) fn lanes_of(self, width: u8, host: WordOffset, joined: Word) -> Word
-        requires { (1 ≤ self.share) × ((1 ≤ width) × (self.share * width ≤ 8)) }
-        ensures { result ≡ lanes_of self width host.0 joined }
+    pub(crate) fn lanes_of(self, host: WordOffset, joined: Word) -> Word
+        ensures { result ≡ lanes_of self.cut self.width host.0 joined }
     {
-        let up = self.lanes_up(width, host);
-        low_bits(joined >> (8 * up), 8 * width)
+        let up = self.lanes_up(host);
+        low_bits(joined >> (8 * up), 8 * self.width)
     }
 
     /// The next part of a slot; idle where it is empty.
     pub(crate) fn next_part(self, slot: Slot) -> Command
-        requires { (Cuttable self) × (Placed self slot) }
-        ensures { result ≡ next_part self slot }
+        requires { Placed self.cut slot }
+        ensures { result ≡ next_part self.cut slot }
     {
         match slot {
             Slot::Empty => Command::Idle,
             Slot::Reading { next, left } => Command::Read {
                 offset: self.below(next),
-                count: self.burst_size(left) * self.parts as u16,
+                count: self.burst_size(left) * self.cut.parts as u16,
             },
             Slot::Beat {
                 place,
@@ -79,25 +77,25 @@ impl Cut {
                 ..
             } => Command::Write {
                 offset: place,
-                count: self.burst_size(left) * self.parts as u16,
-                mask: low_bits(mask as u64, self.width) as u8,
-                word: low_bits(word, 8 * self.width),
+                count: self.burst_size(left) * self.cut.parts as u16,
+                mask: low_bits(mask as u64, self.cut.width) as u8,
+                word: low_bits(word, 8 * self.cut.width),
             },
         }
     }
 
     /// A slot when its next part is taken.
     pub(crate) fn after_part(self, slot: Slot) -> Slot
-        requires { (Cuttable self) × (Placed self slot) }
-        ensures { result ≡ after_part self slot }
+        requires { Placed self.cut slot }
+        ensures { result ≡ after_part self.cut slot }
     {
         match slot {
             Slot::Empty => Slot::Empty,
             Slot::Reading { next, left } => {
-                if left > self.most as u16 {
+                if left > self.cut.most as u16 {
                     Slot::Reading {
-                        next: WordOffset(next.0 + self.most as u32),
-                        left: left - self.most as u16,
+                        next: WordOffset(next.0 + self.cut.most as u32),
+                        left: left - self.cut.most as u16,
                     }
                 } else {
                     Slot::Empty
@@ -114,8 +112,8 @@ impl Cut {
                     Slot::Beat {
                         place: WordOffset(place.0 + 1),
                         parts: parts - 1,
-                        mask: mask >> self.width,
-                        word: word >> (8 * self.width),
+                        mask: mask >> self.cut.width,
+                        word: word >> (8 * self.cut.width),
                         left,
                     }
                 } else {
@@ -126,15 +124,15 @@ impl Cut {
     }
 
     /// The slot of a beat to a host word, of which so many are left.
-    fn beat_slot(self, width: u8, host: WordOffset, left: u16, mask: u8, word: Word) -> Slot
-        requires cuttable { (Cuttable self) × ((1 ≤ width) × ((self.share * width ≤ 8) × (host.0 ≤ 32768))) }
-        requires lanes { (mask < 2 ^ width) × (word < 2 ^ (8 * width)) }
-        ensures { result ≡ beat_slot self width host.0 left mask word }
+    fn beat_slot(self, host: WordOffset, left: u16, mask: u8, word: Word) -> Slot
+        requires near { host.0 ≤ 32768 }
+        requires lanes { (mask < 2 ^ self.width) × (word < 2 ^ (8 * self.width)) }
+        ensures { result ≡ beat_slot self.cut self.width host.0 left mask word }
     {
-        let up = self.lanes_up(width, host);
+        let up = self.lanes_up(host);
         Slot::Beat {
             place: self.below(host),
-            parts: self.parts,
+            parts: self.cut.parts,
             mask: move_up(mask as u64, up) as u8,
             word: move_up(word, 8 * up),
             left,
@@ -142,9 +140,9 @@ impl Cut {
     }
 
     /// The slot that a taken command fills, while this write burst is open above.
-    pub(crate) fn slot_for(self, width: u8, burst: Option<OpenBurst>, command: Command) -> Slot
-        requires { (Cuttable self) × ((1 ≤ width) × ((self.share * width ≤ 8) × (Loadable width burst command))) }
-        ensures { result ≡ slot_for self width burst command }
+    pub(crate) fn slot_for(self, burst: Option<OpenBurst>, command: Command) -> Slot
+        requires { Loadable self.width burst command }
+        ensures { result ≡ slot_for self.cut self.width burst command }
     {
         match (burst, command) {
             (_, Command::Idle) => Slot::Empty,
@@ -160,9 +158,9 @@ impl Cut {
                     mask,
                     word,
                 },
-            ) => self.beat_slot(width, offset, count, mask, word),
+            ) => self.beat_slot(offset, count, mask, word),
             (Some(burst), Command::Write { mask, word, .. }) => {
-                self.beat_slot(width, WordOffset(burst.next), burst.left, mask, word)
+                self.beat_slot(WordOffset(burst.next), burst.left, mask, word)
             }
         }
     }

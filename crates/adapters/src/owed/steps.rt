@@ -3,7 +3,7 @@ ghost use Rattle.std.specs.Prelude.{◌≡◌, ℕ, ◌+◌, ◌*◌, ◌/◌, �
 ghost use Rattle.adapters.specs.Owed.{bursts_in, collected_with, lefts, next_owed, one_gone, whole_with};
 ghost use Rattle.port.specs.Legal.{Came, word_of};
 
-use crate::cut::{Cut, move_up};
+use crate::cut::{Shape, move_up};
 use crate::owed::{Collected, OwedBurst, OwedBursts};
 use arrayvec::ArrayVec;
 use port::addresses::WordOffset;
@@ -19,14 +19,14 @@ impl Collected {
     }
 
     /// One part more has come; the joined parts where it was the last.
-    pub(crate) fn add(&mut self, cut: Cut, part: Word) -> Option<Word>
-        requires parts { (cut.parts ≤ 8) × ((1 ≤ cut.width) × ((self.old.count < cut.parts) × (cut.width * self.old.count + cut.width ≤ 8))) }
-        requires values { (self.old.value < 2 ^ (8 * (cut.width * self.old.count))) × (part < 2 ^ (8 * cut.width)) }
-        ensures has { self.new ≡ collected_with cut self.old part }
-        ensures gives { result ≡ whole_with cut self.old part }
+    pub(crate) fn add(&mut self, shape: Shape, part: Word) -> Option<Word>
+        requires parts { (self.old.count < shape.cut.parts) × (shape.cut.width * self.old.count + shape.cut.width ≤ 8) }
+        requires values { (self.old.value < 2 ^ (8 * (shape.cut.width * self.old.count))) × (part < 2 ^ (8 * shape.cut.width)) }
+        ensures has { self.new ≡ collected_with shape.cut self.old part }
+        ensures gives { result ≡ whole_with shape.cut self.old part }
     {
-        let value = self.value + move_up(part, 8 * (cut.width * self.count));
-        if self.count + 1 < cut.parts {
+        let value = self.value + move_up(part, 8 * (shape.cut.width * self.count));
+        if self.count + 1 < shape.cut.parts {
             *self = Collected {
                 value,
                 count: self.count + 1,

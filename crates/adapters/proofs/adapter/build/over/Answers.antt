@@ -10,7 +10,7 @@ invariant_of-result g c =
     let σ = g.P.Port.state x in
     let here = raised c.args.cut n σ c.status.result g.W.Width.BYTES c.BYTES.result c.args.limits.burst c.args.limits.pending c.in-Ok.engine c.status.ensures c.BYTES.ensures c.in-Ok.ensures in
     let kept = built c.args.cut n σ g.W.Width.BYTES c.args.limits.burst c.args.limits.pending c.in-Ok.engine (g.met.P.Port.legal x) c.requires here.0 here.1 in
-    record { kept = ∣ kept.0 ∣₁; wide = ap (λ (r : PortRecord). r.numbers.width) (here.1.plain σ.memory) }
+    record { kept = ∣ kept.0 ∣₁; wide = ap (λ (r : PortRecord). r.numbers.width) (here.1.plain σ.memory); shaped = here.1.width }
 
 pub returns-in-Ok : goal.returns-in-Ok
 returns-in-Ok g c =
