@@ -1,7 +1,6 @@
 //! The records of a session file, each as the very stretch of the file that carries it, and the fields in them.
 //! Numbers of several bytes stand low byte first.
-ghost use Rattle.std.specs.Prelude.{◌≡◌, ◌+◌, ◌*◌, ◌<◌, length, Some, None, ◌≢◌};
-ghost use Rattle.files.specs.Bytes.{number_at};
+ghost use Rattle.std.specs.Prelude.{◌≡◌, ◌+◌, ◌<◌, length, Some, None};
 ghost use Rattle.files.specs.Parts.{Piece};
 ghost use Rattle.files.specs.Fields.{command_fields_in, pile_in};
 
@@ -94,36 +93,12 @@ pub fn command_fields(bytes: &[u8]) -> Option<CommandFields>
     let [flags, mask, c0, c1, a0, a1, a2, a3, rest @ ..] = bytes else {
         return None;
     };
-    let bits = word(rest)?;
-    let count = two_bytes(*c0, *c1);
-    let address = two_bytes(*a0, *a1) as u32 + 65536 * (two_bytes(*a2, *a3) as u32);
+    let data = <[u8; 8]>::try_from(rest).ok()?;
     Some(CommandFields {
         flags: *flags,
         mask: *mask,
-        count,
-        address,
-        bits,
+        count: u16::from_le_bytes([*c0, *c1]),
+        address: u32::from_le_bytes([*a0, *a1, *a2, *a3]),
+        bits: u64::from_le_bytes(data),
     })
-}
-
-/// The number of two bytes.
-pub(crate) fn two_bytes(low: u8, high: u8) -> u16
-    ensures { result ≡ low + 256 * high }
-{
-    low as u16 + 256 * (high as u16)
-}
-
-/// The number of eight bytes, if there are eight.
-fn word(bytes: &[u8]) -> Option<u64>
-    ensures { elim result [
-      | Some n ↦ (length bytes.now ≡ 8) × (n ≡ number_at bytes.now 0 8)
-      | None ↦ (length bytes.now ≢ 8)
-    ] }
-{
-    let [d0, d1, d2, d3, d4, d5, d6, d7] = bytes else {
-        return None;
-    };
-    let low = two_bytes(*d0, *d1) as u64 + 65536 * (two_bytes(*d2, *d3) as u64);
-    let high = two_bytes(*d4, *d5) as u64 + 65536 * (two_bytes(*d6, *d7) as u64);
-    Some(low + 4294967296 * high)
 }
