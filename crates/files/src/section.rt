@@ -59,8 +59,7 @@ impl Section {
     {
         match self {
             Section::Pile => count == 1,
-            Section::Adapters(pile) => adapters_of(pile).is_some_and(|adapters| count
-                == u16::from(adapters)),
+            Section::Adapters(pile) => adapters_of(pile).map(u16::from) == Some(count),
             Section::Waits | Section::Gaps => (1..=256).contains(&count),
             Section::Memory => (8..=32768).contains(&count) && count % 8 == 0,
             Section::Commands => count <= 1024,
