@@ -1,7 +1,6 @@
 //! The numbers of a session file that stand for something: the kind of a command and the pile that is built.
-ghost use Rattle.std.specs.Prelude.{◌≡◌, Some};
-ghost use Rattle.files.specs.Kinds.{NamesKind, NamesPile, pile_number};
-ghost use Rattle.files.specs.Sections.{adapters_in};
+ghost use Rattle.std.specs.Prelude.{◌≡◌};
+ghost use Rattle.files.specs.Kinds.{NamesKind, NamesPile, adapters_each};
 
 use crate::faults::FileFault;
 
@@ -54,7 +53,7 @@ impl TryFrom<u8> for Pile {
 impl Pile {
     /// The number of adapters over the memory.
     pub fn adapters(self) -> u8
-        ensures { Some result ≡ adapters_in (pile_number self) }
+        ensures { result ≡ adapters_each self }
     {
         match self {
             Pile::Memory => 0,

@@ -8,11 +8,11 @@ use crate::faults::{Fault, FileFault};
 use crate::kinds::{CommandKind, Pile};
 use crate::records::{PileFields, SessionRecord, Stretch, command_fields, pile_fields};
 
-/// A section of a session file. The adapters' is known only with the pile's number.
+/// A section of a session file. The adapters' is known only with the pile.
 #[derive(Clone, Copy)]
 pub enum Section {
     Pile,
-    Adapters(u8),
+    Adapters(Pile),
     Waits,
     Gaps,
     Memory,
@@ -59,7 +59,7 @@ impl Section {
     {
         match self {
             Section::Pile => count == 1,
-            Section::Adapters(pile) => adapters_of(pile).map(u16::from) == Some(count),
+            Section::Adapters(pile) => count == u16::from(pile.adapters()),
             Section::Waits | Section::Gaps => (1..=256).contains(&count),
             Section::Memory => (8..=32768).contains(&count) && count % 8 == 0,
             Section::Commands => count <= 1024,

@@ -6,6 +6,7 @@ ghost use Rattle.files.specs.declared.records.SessionRecord.TheVariants.{Command
 ghost use Rattle.files.specs.Sessions.{Accepted, Rejected};
 
 use crate::faults::Fault;
+use crate::kinds::Pile;
 use crate::reader::Reader;
 use crate::records::{PileFields, SessionRecord, Stretch, pile_fields};
 use crate::section::Section;
@@ -35,7 +36,10 @@ pub fn read_session(file: &[u8]) -> Result<Session<'_>, Fault>
     let Some(pile) = pile_fields(setup.stretch.bytes) else {
         unreachable()
     };
-    let adapters = reader.section(Section::Adapters(pile.pile))?;
+    let Ok(kind) = Pile::try_from(pile.pile) else {
+        unreachable()
+    };
+    let adapters = reader.section(Section::Adapters(kind))?;
     let waits = reader.section(Section::Waits)?;
     let gaps = reader.section(Section::Gaps)?;
     let memory = reader.section(Section::Memory)?;

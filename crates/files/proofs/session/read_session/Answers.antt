@@ -14,17 +14,17 @@ returns-in_err-setup c =
 pub returns-in_err-adapters : goal.returns-in_err-adapters
 returns-in_err-adapters c =
     let p = err_from_is_err_and c.from_residual-in_err-adapters.result c.from_residual-in_err-adapters.ensures.1 in
-    let adapters : Reached c.args.file (Adapters c.in-Some.pile.pile) (Waits ∷ Gaps ∷ Memory ∷ Commands ∷ []) c.section.new.self.file c.section.new.self.place =
-    go_pile c.in-Some.pile c.new-reader.ensures.0 c.new-reader.ensures.1
-    c.in_ok-setup.ensures.judged c.in_ok-setup.ensures.same c.in-Some.ensures in
+    let adapters : Reached c.args.file (Adapters c.in-Ok.kind) (Waits ∷ Gaps ∷ Memory ∷ Commands ∷ []) c.section.new.self.file c.section.new.self.place =
+    go_pile c.in-Ok.kind c.in-Some.pile c.new-reader.ensures.0 c.new-reader.ensures.1
+    c.in_ok-setup.ensures.judged c.in_ok-setup.ensures.same c.in-Some.ensures c.in-Ok.ensures in
     rw (p.1, p.2) (stop adapters c.in_err-adapters.ensures.judged)
 
 pub returns-in_err-waits : goal.returns-in_err-waits
 returns-in_err-waits c =
     let p = err_from_is_err_and c.from_residual-in_err-waits.result c.from_residual-in_err-waits.ensures.1 in
-    let adapters : Reached c.args.file (Adapters c.in-Some.pile.pile) (Waits ∷ Gaps ∷ Memory ∷ Commands ∷ []) c.section.new.self.file c.section.new.self.place =
-    go_pile c.in-Some.pile c.new-reader.ensures.0 c.new-reader.ensures.1
-    c.in_ok-setup.ensures.judged c.in_ok-setup.ensures.same c.in-Some.ensures in
+    let adapters : Reached c.args.file (Adapters c.in-Ok.kind) (Waits ∷ Gaps ∷ Memory ∷ Commands ∷ []) c.section.new.self.file c.section.new.self.place =
+    go_pile c.in-Ok.kind c.in-Some.pile c.new-reader.ensures.0 c.new-reader.ensures.1
+    c.in_ok-setup.ensures.judged c.in_ok-setup.ensures.same c.in-Some.ensures c.in-Ok.ensures in
     let waits : Reached c.args.file Waits (Gaps ∷ Memory ∷ Commands ∷ []) c.section-2.new.self.file c.section-2.new.self.place =
     go adapters c.in_ok-adapters.ensures.judged c.in_ok-adapters.ensures.same in
     rw (p.1, p.2) (stop waits c.in_err-waits.ensures.judged)
@@ -32,9 +32,9 @@ returns-in_err-waits c =
 pub returns-in_err-gaps : goal.returns-in_err-gaps
 returns-in_err-gaps c =
     let p = err_from_is_err_and c.from_residual-in_err-gaps.result c.from_residual-in_err-gaps.ensures.1 in
-    let adapters : Reached c.args.file (Adapters c.in-Some.pile.pile) (Waits ∷ Gaps ∷ Memory ∷ Commands ∷ []) c.section.new.self.file c.section.new.self.place =
-    go_pile c.in-Some.pile c.new-reader.ensures.0 c.new-reader.ensures.1
-    c.in_ok-setup.ensures.judged c.in_ok-setup.ensures.same c.in-Some.ensures in
+    let adapters : Reached c.args.file (Adapters c.in-Ok.kind) (Waits ∷ Gaps ∷ Memory ∷ Commands ∷ []) c.section.new.self.file c.section.new.self.place =
+    go_pile c.in-Ok.kind c.in-Some.pile c.new-reader.ensures.0 c.new-reader.ensures.1
+    c.in_ok-setup.ensures.judged c.in_ok-setup.ensures.same c.in-Some.ensures c.in-Ok.ensures in
     let waits : Reached c.args.file Waits (Gaps ∷ Memory ∷ Commands ∷ []) c.section-2.new.self.file c.section-2.new.self.place =
     go adapters c.in_ok-adapters.ensures.judged c.in_ok-adapters.ensures.same in
     let gaps : Reached c.args.file Gaps (Memory ∷ Commands ∷ []) c.section-3.new.self.file c.section-3.new.self.place =
@@ -44,9 +44,9 @@ returns-in_err-gaps c =
 pub returns-in_err-memory : goal.returns-in_err-memory
 returns-in_err-memory c =
     let p = err_from_is_err_and c.from_residual-in_err-memory.result c.from_residual-in_err-memory.ensures.1 in
-    let adapters : Reached c.args.file (Adapters c.in-Some.pile.pile) (Waits ∷ Gaps ∷ Memory ∷ Commands ∷ []) c.section.new.self.file c.section.new.self.place =
-    go_pile c.in-Some.pile c.new-reader.ensures.0 c.new-reader.ensures.1
-    c.in_ok-setup.ensures.judged c.in_ok-setup.ensures.same c.in-Some.ensures in
+    let adapters : Reached c.args.file (Adapters c.in-Ok.kind) (Waits ∷ Gaps ∷ Memory ∷ Commands ∷ []) c.section.new.self.file c.section.new.self.place =
+    go_pile c.in-Ok.kind c.in-Some.pile c.new-reader.ensures.0 c.new-reader.ensures.1
+    c.in_ok-setup.ensures.judged c.in_ok-setup.ensures.same c.in-Some.ensures c.in-Ok.ensures in
     let waits : Reached c.args.file Waits (Gaps ∷ Memory ∷ Commands ∷ []) c.section-2.new.self.file c.section-2.new.self.place =
     go adapters c.in_ok-adapters.ensures.judged c.in_ok-adapters.ensures.same in
     let gaps : Reached c.args.file Gaps (Memory ∷ Commands ∷ []) c.section-3.new.self.file c.section-3.new.self.place =
@@ -58,9 +58,9 @@ returns-in_err-memory c =
 pub returns-in_err-commands : goal.returns-in_err-commands
 returns-in_err-commands c =
     let p = err_from_is_err_and c.from_residual-in_err-commands.result c.from_residual-in_err-commands.ensures.1 in
-    let adapters : Reached c.args.file (Adapters c.in-Some.pile.pile) (Waits ∷ Gaps ∷ Memory ∷ Commands ∷ []) c.section.new.self.file c.section.new.self.place =
-    go_pile c.in-Some.pile c.new-reader.ensures.0 c.new-reader.ensures.1
-    c.in_ok-setup.ensures.judged c.in_ok-setup.ensures.same c.in-Some.ensures in
+    let adapters : Reached c.args.file (Adapters c.in-Ok.kind) (Waits ∷ Gaps ∷ Memory ∷ Commands ∷ []) c.section.new.self.file c.section.new.self.place =
+    go_pile c.in-Ok.kind c.in-Some.pile c.new-reader.ensures.0 c.new-reader.ensures.1
+    c.in_ok-setup.ensures.judged c.in_ok-setup.ensures.same c.in-Some.ensures c.in-Ok.ensures in
     let waits : Reached c.args.file Waits (Gaps ∷ Memory ∷ Commands ∷ []) c.section-2.new.self.file c.section-2.new.self.place =
     go adapters c.in_ok-adapters.ensures.judged c.in_ok-adapters.ensures.same in
     let gaps : Reached c.args.file Gaps (Memory ∷ Commands ∷ []) c.section-3.new.self.file c.section-3.new.self.place =
@@ -74,9 +74,9 @@ returns-in_err-commands c =
 pub returns-in_err-end : goal.returns-in_err-end
 returns-in_err-end c =
     let p = err_from_is_err_and c.from_residual-in_err-end.result c.from_residual-in_err-end.ensures.1 in
-    let adapters : Reached c.args.file (Adapters c.in-Some.pile.pile) (Waits ∷ Gaps ∷ Memory ∷ Commands ∷ []) c.section.new.self.file c.section.new.self.place =
-    go_pile c.in-Some.pile c.new-reader.ensures.0 c.new-reader.ensures.1
-    c.in_ok-setup.ensures.judged c.in_ok-setup.ensures.same c.in-Some.ensures in
+    let adapters : Reached c.args.file (Adapters c.in-Ok.kind) (Waits ∷ Gaps ∷ Memory ∷ Commands ∷ []) c.section.new.self.file c.section.new.self.place =
+    go_pile c.in-Ok.kind c.in-Some.pile c.new-reader.ensures.0 c.new-reader.ensures.1
+    c.in_ok-setup.ensures.judged c.in_ok-setup.ensures.same c.in-Some.ensures c.in-Ok.ensures in
     let waits : Reached c.args.file Waits (Gaps ∷ Memory ∷ Commands ∷ []) c.section-2.new.self.file c.section-2.new.self.place =
     go adapters c.in_ok-adapters.ensures.judged c.in_ok-adapters.ensures.same in
     let gaps : Reached c.args.file Gaps (Memory ∷ Commands ∷ []) c.section-3.new.self.file c.section-3.new.self.place =
@@ -90,9 +90,9 @@ returns-in_err-end c =
 
 pub returns : goal.returns
 returns c =
-    let adapters : Reached c.args.file (Adapters c.in-Some.pile.pile) (Waits ∷ Gaps ∷ Memory ∷ Commands ∷ []) c.section.new.self.file c.section.new.self.place =
-    go_pile c.in-Some.pile c.new-reader.ensures.0 c.new-reader.ensures.1
-    c.in_ok-setup.ensures.judged c.in_ok-setup.ensures.same c.in-Some.ensures in
+    let adapters : Reached c.args.file (Adapters c.in-Ok.kind) (Waits ∷ Gaps ∷ Memory ∷ Commands ∷ []) c.section.new.self.file c.section.new.self.place =
+    go_pile c.in-Ok.kind c.in-Some.pile c.new-reader.ensures.0 c.new-reader.ensures.1
+    c.in_ok-setup.ensures.judged c.in_ok-setup.ensures.same c.in-Some.ensures c.in-Ok.ensures in
     let waits : Reached c.args.file Waits (Gaps ∷ Memory ∷ Commands ∷ []) c.section-2.new.self.file c.section-2.new.self.place =
     go adapters c.in_ok-adapters.ensures.judged c.in_ok-adapters.ensures.same in
     let gaps : Reached c.args.file Gaps (Memory ∷ Commands ∷ []) c.section-3.new.self.file c.section-3.new.self.place =
@@ -103,8 +103,8 @@ returns c =
     go memory c.in_ok-memory.ensures.judged c.in_ok-memory.ensures.same in
     let e =
     ended commands c.in_ok-commands.ensures.judged c.in_ok-commands.ensures.same c.in_ok-end.ensures in
-    accepted c.in-Some.pile c.new-reader.ensures.1
-    (passed_in c.new-reader.ensures.0 c.in_ok-setup.ensures.judged) c.in-Some.ensures
+    accepted c.in-Ok.kind c.in-Some.pile c.new-reader.ensures.1
+    (passed_in c.new-reader.ensures.0 c.in_ok-setup.ensures.judged) c.in-Some.ensures c.in-Ok.ensures
     (passed_in adapters.same c.in_ok-adapters.ensures.judged)
     (passed_in waits.same c.in_ok-waits.ensures.judged)
     (passed_in gaps.same c.in_ok-gaps.ensures.judged)
