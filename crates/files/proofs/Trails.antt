@@ -104,10 +104,10 @@ after_is : (p : Pile) (n : ℕ) → pile_of n ≡ Some p → after_pile n ≡ Ad
 after_is p n e = ap (λ (o : Option Pile). sections_after o) e
 
 -- past the pile's section, with its pile
-pub go_pile : {whole w v : Bor (List ℕ)} {from to : ℕ} {r : Records} (p : Pile) (q : PileFields) → w ≡ whole → from ≡ 0
+pub go_pile : {whole w v : Bor (List ℕ)} {from to : ℕ} {r : Records} {p : Pile} {q : PileFields} → (w ≡ whole) × (from ≡ 0)
     → Passed section.Pile w from r to → v ≡ w → Some q ≡ pile_in r.stretch.bytes.now → pile_of q.pile ≡ Some p
     → Reached whole (Adapters p) (Waits ∷ Gaps ∷ Memory ∷ Commands ∷ []) v to
-go_pile {whole = whole} {w = w} {from = from} p q e z s f t k =
+go_pile {whole = whole} {w = w} {from = from} {p = p} {q = q} (e, z) s f t k =
     let known : pile_of (get_or whole.now 2 0) ≡ Some p =
     subst (λ (n : ℕ). pile_of n ≡ Some p) (pile_is q (passed_in e s) z t) k in
     go (subst (λ (js : List Section). Reached whole section.Pile js w from) (after_is p _ known) (start whole w from e z)) s f
