@@ -1,4 +1,5 @@
 -- A file has no fault exactly when it is well formed.
+use Rattle.std.proofs.lemmas.Grind.{common_steps}
 use Rattle.std.proofs.Common.{◌≡◌, ℕ, zero, suc, ◌+◌, ◌-◌, ◌*◌, ◌<◌, ◌≤◌, true, List, [], ◌∷◌, ◌++◌, length, get_or, take, drop, Some, None, Option, sym, refl, ap, ◌∙◌, subst, suc-mul, add_comm, zero-mul, arith, length-append, length-drop, take-add, rules}
 use Rattle.std.proofs.lemmas.List.{drop-drop, drop_more, get_or-drop, length-take-le, take-append-drop, take_at, drop_at, append_assoc}
 use Rattle.files.specs.declared.faults.Fault.{Fault}
@@ -48,19 +49,11 @@ records_sound k xs from b (suc n) e =
 chunk : (xs one others : List ℕ) (from s : ℕ) → drop from xs ≡ one ++ others → length one ≡ s → 0 < s
     → (from + s ≤ length xs) × (bytes_at xs from s ≡ one) × (drop (from + s) xs ≡ others)
 chunk xs one others from s d l h =
-    let e : length xs - from ≡ length one + length others = sym (length-drop from xs) ∙ ap length d ∙ length-append one others in (
-      omega arith,
-      ap (λ (ys : List ℕ). take s ys) d ∙ take_at one others s l,
-      sym (drop-drop s from xs) ∙ ap (λ (ys : List ℕ). drop s ys) d ∙ drop_at one others s l,
-    )
+    let e : length xs - from ≡ length one + length others = sym (length-drop from xs) ∙ ap length d ∙ length-append one others in
+    (omega arith, grind (arith, common_steps), sym (drop-drop s from xs) ∙ rw d (drop_at one others s l))
 
 some_bytes : (k : Section) → 0 < bytes_each k
-some_bytes Pile = omega arith
-some_bytes (Adapters _) = omega arith
-some_bytes Waits = omega arith
-some_bytes Gaps = omega arith
-some_bytes Memory = omega arith
-some_bytes Commands = omega arith
+some_bytes k = grind arith
 
 record_complete : (k : Section) (xs one : List ℕ) (from b : ℕ) → from + bytes_each k ≤ length xs → bytes_at xs from (bytes_each k) ≡ one
     → wrong_in k one ≡ None → record_fault k xs from b ≡ None
@@ -87,13 +80,7 @@ count_is xs from = omega arith
 
 -- the count and what comes behind it
 count_first : (xs : List ℕ) (from : ℕ) → from + 2 ≤ length xs → drop from xs ≡ get_or xs from 0 ∷ get_or xs (from + 1) 0 ∷ drop (from + 2) xs
-count_first xs from h =
-    let a : from < length xs = omega arith in
-    let b : from + 1 < length xs = omega arith in
-    let n : from + 1 + 1 ≡ from + 2 = omega arith in
-    drop_more xs from 0 a
-    ∙ ap (λ (ys : List ℕ). get_or xs from 0 ∷ ys) (drop_more xs (from + 1) 0 b)
-    ∙ ap (λ (m : ℕ). get_or xs from 0 ∷ get_or xs (from + 1) 0 ∷ drop m xs) n
+count_first xs from h = grind (arith, common_steps)
 
 -- a section without a fault is a good section
 pub section_sound : (k : Section) (xs body : List ℕ) (from : ℕ) → section_fault k xs from ≡ None
@@ -116,14 +103,11 @@ section_sound k xs body from e s =
     )
 
 records_length : (k : Section) (n : ℕ) (body : List ℕ) → RecordsOf k n body → length body ≡ n * bytes_each k
-records_length k zero body e = ap length e ∙ sym (zero-mul (bytes_each k))
+records_length k zero body e = grind (arith, common_steps)
 records_length k (suc n) body r =
-    let s : ℕ = bytes_each k in
     let i = records_length k n r.1 r.5 in
     let l : length body ≡ length r.0 + length r.1 = ap length r.2 ∙ length-append r.0 r.1 in
-    let m : suc n * s ≡ n * s + s = suc-mul n s in
-    let o = r.3 in
-    omega arith
+    grind (arith, common_steps)
 
 count_complete : (k : Section) (xs : List ℕ) (from : ℕ) → from + 2 ≤ length xs → allowed k (count_at xs from) ≡ true → count_fault k xs from ≡ None
 count_complete k xs from h a = search rules

@@ -1,4 +1,5 @@
 -- The numbers of sections without a fault are in their ranges.
+use Rattle.std.proofs.lemmas.Grind.{common_steps}
 use Rattle.std.proofs.Common.{◌≡◌, ℕ, zero, suc, ◌+◌, ◌*◌, ◌%◌, ◌<◌, ◌≤◌, true, ◌&&◌, eqb, leb, List, length, get_or, drop, Some, None, Option, sym, ap, ◌∙◌, subst, suc-mul, zero-mul, arith, Bor, rules}
 use Rattle.std.specs.Option.{option_map}
 use Rattle.std.proofs.lemmas.List.{get_or-drop, get_or-take}
@@ -18,9 +19,7 @@ use Rattle.files.proofs.Grammar.{both_none, count_sound, record_sound}
 
 -- the count of a section that was read is one that it allows
 pub count_allowed : {k : Section} {whole : Bor (List ℕ)} {from to : ℕ} {r : Records} → Passed k whole from r to → allowed k r.count ≡ true
-count_allowed {k = k} {whole = whole} {from = from} p =
-    let g = count_sound k whole.now from (both_none _ _ p.faultless).0 in
-    subst (λ (n : ℕ). allowed k n ≡ true) (sym p.counted) g.1
+count_allowed {k = k} {whole = whole} {from = from} p = search (rules, count_sound, both_none)
 
 -- nothing is wrong with any record of records without a fault
 each_good : (k : Section) (xs : List ℕ) (from b n i : ℕ) → records_fault k xs from b n ≡ None → i < n
@@ -68,26 +67,13 @@ pub command_flags : {whole : Bor (List ℕ)} {from to : ℕ} {r : Records} → P
     → (i : ℕ) → 16 * i < length r.stretch.bytes.now → get_or r.stretch.bytes.now (16 * i) 0 ≤ 3
 command_flags {whole = whole} {from = from} {r = r} p i h =
     let long = p.records_part.long in
-    let l : i < r.count = omega arith in
-    let m : 16 * i < r.count * 16 = omega arith in
-    let good = flags_range (bytes_at whole.now (from + 2 + i * 16) 16) (record_good i p l) in
-    let a : get_or (bytes_at whole.now (from + 2 + i * 16) 16) 0 0 ≡ get_or whole.now (from + 2 + i * 16 + 0) 0 =
-    get_or-take 16 (drop (from + 2 + i * 16) whole.now) 0 0 (omega arith) ∙ get_or-drop (from + 2 + i * 16) whole.now 0 0 in
-    let b : get_or r.stretch.bytes.now (16 * i) 0 ≡ get_or whole.now (from + 2 + 16 * i) 0 =
-    ap (λ (ys : List ℕ). get_or ys (16 * i) 0) p.records_part.holds
-    ∙ get_or-take (r.count * 16) (drop (from + 2) whole.now) (16 * i) 0 m ∙ get_or-drop (from + 2) whole.now (16 * i) 0 in
-    let n : from + 2 + 16 * i ≡ from + 2 + i * 16 + 0 = omega arith in
-    let e : get_or r.stretch.bytes.now (16 * i) 0 ≡ get_or (bytes_at whole.now (from + 2 + i * 16) 16) 0 0 =
-    b ∙ ap (λ (j : ℕ). get_or whole.now j 0) n ∙ sym a in
-    subst (λ (v : ℕ). v ≤ 3) (sym e) good
+    let holds = p.records_part.holds in
+    let good = flags_range (bytes_at whole.now (from + 2 + i * 16) 16) (record_good i p (omega arith)) in
+    grind (arith, common_steps)
 
 pub pile_good : {whole : Bor (List ℕ)} {from to : ℕ} {r : Records} → Passed section.Pile whole from r to → length r.stretch.bytes.now ≡ 3
     → pile_wrong r.stretch.bytes.now ≡ None
 pile_good {whole = whole} {from = from} {r = r} p h =
     let long = p.records_part.long in
-    let l : 0 < r.count = omega arith in
-    let m : r.count * 3 ≡ 3 = omega arith in
-    let n : from + 2 ≡ from + 2 + 0 * 3 = omega arith in
-    let e : r.stretch.bytes.now ≡ bytes_at whole.now (from + 2 + 0 * 3) 3 =
-    p.records_part.holds ∙ ap (λ (j : ℕ). bytes_at whole.now (from + 2) j) m ∙ ap (λ (j : ℕ). bytes_at whole.now j 3) n in
-    subst (λ (ys : List ℕ). pile_wrong ys ≡ None) (sym e) (record_good 0 p l)
+    let good = record_good 0 p (omega arith) in
+    grind (arith, common_steps)

@@ -1,4 +1,5 @@
 -- The way of a reader through a session file, section by section.
+use Rattle.std.proofs.lemmas.Grind.{common_steps}
 use Rattle.std.proofs.Common.{◌≡◌, ℕ, ◌+◌, ◌*◌, ◌<◌, List, [], ◌∷◌, length, get_or, drop, Some, None, Option, sym, refl, ap, ◌∙◌, subst, arith, Bor, rules}
 use Rattle.std.proofs.lemmas.List.{get_or-drop, get_or-take, drop_all}
 use Rattle.files.specs.declared.faults.Fault.{Fault}
@@ -27,27 +28,27 @@ pub record Reached (whole : Bor (List ℕ)) (k : Section) (js : List Section) (w
 
 pub start : (whole w : Bor (List ℕ)) (from : ℕ) → w ≡ whole → from ≡ 0
     → Reached whole section.Pile (after_pile (get_or whole.now 2 0)) w from
-start whole w from e z = record { same = e; left = ap (λ (m : ℕ). sections_fault section.Pile (after_pile (get_or whole.now 2 0)) whole.now m) (sym z) }
+start whole w from e z = record { same = e; left = rw z }
 
 sections_go : (k j : Section) (js : List Section) (xs : List ℕ) (from : ℕ) → section_fault k xs from ≡ None
     → sections_fault k (j ∷ js) xs from ≡ sections_fault j js xs (behind k xs from)
 unfolding sections_fault
-sections_go k j js xs from e = ap (λ (o : Option Fault). or_else o (sections_fault j js xs (behind k xs from))) e
+sections_go k j js xs from e = rw e
 
 sections_end : (k : Section) (xs : List ℕ) (from : ℕ) → section_fault k xs from ≡ None
     → sections_fault k [] xs from ≡ rest_fault k xs from
 unfolding sections_fault
-sections_end k xs from e = ap (λ (o : Option Fault). or_else o (rest_fault k xs from)) e
+sections_end k xs from e = rw e
 
 sections_stop : (k : Section) (js : List Section) (xs : List ℕ) (from : ℕ) (f : Fault) → section_fault k xs from ≡ Some f
     → sections_fault k js xs from ≡ Some f
 unfolding sections_fault
-sections_stop k [] xs from f e = ap (λ (o : Option Fault). or_else o (rest_fault k xs from)) e
-sections_stop k (j ∷ js) xs from f e = ap (λ (o : Option Fault). or_else o (sections_fault j js xs (behind k xs from))) e
+sections_stop k [] xs from f e = rw e
+sections_stop k (j ∷ js) xs from f e = rw e
 
 -- a section of another reference to the same file
 pub passed_in : {k : Section} {whole w : Bor (List ℕ)} {from to : ℕ} {r : Records} → w ≡ whole → Passed k w from r to → Passed k whole from r to
-passed_in {k = k} {from = from} {to = to} {r = r} e p = subst (λ (v : Bor (List ℕ)). Passed k v from r to) e p
+passed_in e p = rw (← e) p
 
 -- past a section without a fault
 pub go : {whole w v : Bor (List ℕ)} {k j : Section} {js : List Section} {from to : ℕ} {r : Records}
@@ -92,12 +93,9 @@ pile_is : {whole : Bor (List ℕ)} {from to : ℕ} {r : Records} (p : PileFields
     → Some p ≡ pile_in r.stretch.bytes.now → p.pile ≡ get_or whole.now 2 0
 pile_is {whole = whole} {from = from} {r = r} p s z e =
     let f = fields_are r.stretch.bytes.now p (sym e) in
-    let h : 0 < r.count * 3 = omega (arith, s.records_part.long) in
-    let n : from + 2 + 0 ≡ 2 = omega arith in
-    f.1 ∙ ap (λ (ys : List ℕ). get_or ys 0 0) s.records_part.holds
-    ∙ get_or-take (r.count * 3) (drop (from + 2) whole.now) 0 0 h
-    ∙ get_or-drop (from + 2) whole.now 0 0
-    ∙ ap (λ (m : ℕ). get_or whole.now m 0) n
+    let holds = s.records_part.holds in
+    let long = s.records_part.long in
+    grind (arith, common_steps)
 
 -- the sections behind the pile's, for a number that stands for a pile
 after_is : (p : Pile) (n : ℕ) → pile_of n ≡ Some p → after_pile n ≡ Adapters p ∷ Waits ∷ Gaps ∷ Memory ∷ Commands ∷ []
@@ -161,25 +159,13 @@ lies_at {whole = whole} {from = from} {r = r} m p e =
 
 ends_at : {k : Section} {whole : Bor (List ℕ)} {from to : ℕ} {r : Records} → Passed k whole from r to
     → to ≡ r.stretch.place + length r.stretch.bytes.now
-ends_at {k = k} {whole = whole} {from = from} {to = to} {r = r} p =
-    p.ends ∙ ap (λ (n : ℕ). from + 2 + n * bytes_each k) (sym p.counted)
-    ∙ (let a = p.records_part.placed in let b = p.records_part.long in omega arith)
+ends_at {k = k} {whole = whole} {from = from} {to = to} {r = r} p = grind (arith, p.ends, p.counted, p.records_part.placed, p.records_part.long)
 
 three : (xs : List ℕ) → length xs ≡ 3 → get_or xs 0 0 ∷ get_or xs 1 0 ∷ get_or xs 2 0 ∷ [] ≡ xs
-three [] e = absurd (omega arith)
-three (x ∷ []) e = absurd (omega arith)
-three (x ∷ y ∷ []) e = absurd (omega arith)
-three (x ∷ y ∷ z ∷ []) e = refl
-three (x ∷ y ∷ z ∷ v ∷ xs) e = absurd (omega arith)
+three xs e = grind (arith, common_steps)
 
 fields_all : (xs : List ℕ) (p : PileFields) → pile_in xs ≡ Some p → p.pile ∷ p.burst_limit ∷ p.pending_limit ∷ [] ≡ xs
-fields_all xs p e =
-    let f = fields_are xs p e in
-    let t = three xs f.0 in
-    let a = f.1 in
-    let b = f.2 in
-    let c = f.3 in
-    cc
+fields_all xs p e = search (rules, fields_are, three)
 
 -- six sections that were read one behind the other, up to the end of the file, are a session
 pub accepted : {whole : Bor (List ℕ)} {p0 p1 p2 p3 p4 p5 p6 : ℕ} {r1 r2 r3 r4 r5 r6 : Records} (p : Pile) (q : PileFields)

@@ -1,4 +1,5 @@
 -- Steps of the search for the first fault.
+use Rattle.std.proofs.lemmas.Grind.{common_steps}
 use Rattle.std.proofs.Common.{◌≡◌, ℕ, suc, ◌+◌, ◌-◌, ◌<◌, List, None, Option, sym, ap, ◌∙◌, arith}
 use Rattle.files.specs.declared.faults.Fault.{Fault}
 use Rattle.files.specs.declared.section.Section.{Section}
@@ -9,6 +10,5 @@ use Rattle.files.specs.Sections.{bytes_each}
 pub records_go : (k : Section) (xs : List ℕ) (from b n : ℕ) → b < n → record_fault k xs from b ≡ None
     → records_fault k xs (from + bytes_each k) (b + 1) (n - (b + 1)) ≡ records_fault k xs from b (n - b)
 records_go k xs from b n h e =
-    let rest : Option Fault = records_fault k xs (from + bytes_each k) (b + 1) (n - (b + 1)) in
     let more : n - b ≡ suc (n - (b + 1)) = omega arith in
-    sym (ap (λ (m : ℕ). records_fault k xs from b m) more ∙ ap (λ (o : Option Fault). or_else o rest) e)
+    grind (arith, common_steps)
