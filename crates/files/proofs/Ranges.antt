@@ -1,8 +1,7 @@
 -- The numbers of sections without a fault are in their ranges.
 use Rattle.std.proofs.lemmas.Grind.{common_steps}
-use Rattle.std.proofs.Common.{◌≡◌, ℕ, zero, suc, ◌+◌, ◌*◌, ◌%◌, ◌<◌, ◌≤◌, true, ◌&&◌, eqb, leb, List, length, get_or, drop, Some, None, Option, sym, ap, ◌∙◌, subst, suc-mul, zero-mul, arith, Bor, rules}
+use Rattle.std.proofs.Common.{◌≡◌, ℕ, zero, suc, ◌+◌, ◌*◌, ◌%◌, ◌<◌, ◌≤◌, true, ◌&&◌, eqb, leb, List, length, get_or, Some, None, Option, sym, ap, subst, suc-mul, zero-mul, arith, Bor, rules}
 use Rattle.std.specs.Option.{option_map}
-use Rattle.std.proofs.lemmas.List.{get_or-drop, get_or-take}
 use Rattle.files.specs.declared.kinds.Pile.{Pile}
 use Rattle.files.specs.declared.records.PileFields.{PileFields}
 use Rattle.files.specs.declared.records.Records.{Records}
@@ -10,7 +9,7 @@ use Rattle.files.specs.declared.section.Section.{Section}
 use Rattle.files.specs.declared.section.Section.TheVariants.{Commands}
 use Rattle.files.specs.declared.section.Section.TheVariants as section
 use Rattle.files.specs.Bytes.{bytes_at}
-use Rattle.files.specs.Faults.{records_fault}
+use Rattle.files.specs.Faults.{count_at, records_fault}
 use Rattle.files.specs.Fields.{pile_in}
 use Rattle.files.specs.Kinds.{adapters_each, pile_of}
 use Rattle.files.specs.Parts.{Passed}
@@ -27,19 +26,16 @@ each_good : (k : Section) (xs : List ℕ) (from b n i : ℕ) → records_fault k
 each_good k xs from b zero i e h = absurd (omega arith)
 each_good k xs from b (suc n) zero e h =
     let z : from ≡ from + zero * bytes_each k = omega (arith, zero-mul (bytes_each k)) in
-    let g = record_sound k xs from b (both_none _ _ e).0 in
-    subst (λ (m : ℕ). wrong_in k (bytes_at xs m (bytes_each k)) ≡ None) z g.1
+    rw (← z) (record_sound k xs from b (both_none _ _ e).0).1
 each_good k xs from b (suc n) (suc i) e h =
-    let l : i < n = omega arith in
     let z : from + bytes_each k + i * bytes_each k ≡ from + suc i * bytes_each k = omega (arith, suc-mul i (bytes_each k)) in
-    let g = each_good k xs (from + bytes_each k) (b + 1) n i (both_none _ _ e).1 l in
-    subst (λ (m : ℕ). wrong_in k (bytes_at xs m (bytes_each k)) ≡ None) z g
+    rw (← z) (each_good k xs (from + bytes_each k) (b + 1) n i (both_none _ _ e).1 (omega arith))
 
 -- nothing is wrong with any record of a section that was read
 pub record_good : {k : Section} {whole : Bor (List ℕ)} {from to : ℕ} {r : Records} (i : ℕ) → Passed k whole from r to → i < r.count
     → wrong_in k (bytes_at whole.now (from + 2 + i * bytes_each k) (bytes_each k)) ≡ None
 record_good {k = k} {whole = whole} {from = from} {r = r} i p h =
-    each_good k whole.now (from + 2) 1 _ i (both_none _ _ p.faultless).1 (subst (λ (n : ℕ). i < n) p.counted h)
+    each_good k whole.now (from + 2) 1 (count_at whole.now from) i (both_none _ _ p.faultless).1 (omega (arith, p.counted))
 
 pub script_range : (n l : ℕ) → from_to 1 256 n ≡ true → l ≡ n * 1 → (1 ≤ l) × (l ≤ 256)
 script_range n l e h = search rules

@@ -1,7 +1,7 @@
 -- The way of a reader through a session file, section by section.
 use Rattle.std.proofs.lemmas.Grind.{common_steps}
-use Rattle.std.proofs.Common.{◌≡◌, ℕ, ◌+◌, ◌*◌, ◌<◌, List, [], ◌∷◌, length, get_or, drop, Some, None, Option, sym, refl, ap, ◌∙◌, subst, arith, Bor, rules}
-use Rattle.std.proofs.lemmas.List.{get_or-drop, get_or-take, drop_all}
+use Rattle.std.proofs.Common.{◌≡◌, ℕ, ◌+◌, ◌<◌, List, [], ◌∷◌, length, get_or, drop, Some, None, Option, sym, refl, ap, ◌∙◌, subst, arith, Bor, rules}
+use Rattle.std.proofs.lemmas.List.{drop_all}
 use Rattle.files.specs.declared.faults.Fault.{Fault}
 use Rattle.files.specs.declared.faults.FileFault.TheVariants.{Broken}
 use Rattle.files.specs.declared.records.PileFields.{PileFields}
@@ -11,12 +11,10 @@ use Rattle.files.specs.declared.section.Section.TheVariants.{Adapters, Waits, Ga
 use Rattle.files.specs.declared.section.Section.TheVariants as section
 use Rattle.files.specs.declared.kinds.Pile.{Pile}
 use Rattle.files.specs.Kinds.{pile_of}
-use Rattle.files.specs.Bytes.{bytes_at}
-use Rattle.files.specs.Faults.{count_at, section_fault, sections_fault, rest_fault, after_pile, sections_after, first_fault, fault_at, behind, or_else}
+use Rattle.files.specs.Faults.{count_at, section_fault, sections_fault, rest_fault, after_pile, sections_after, first_fault, fault_at, behind}
 use Rattle.files.specs.Forms.{SectionsOf}
-use Rattle.files.specs.Parts.{Part, Passed}
+use Rattle.files.specs.Parts.{Passed}
 use Rattle.files.specs.Fields.{pile_in}
-use Rattle.files.specs.Sections.{bytes_each}
 use Rattle.files.specs.Sessions.{Accepted, Lies, Rejected, past_count}
 use Rattle.files.proofs.Ranges.{adapters_range, command_flags, commands_range, count_allowed, fields_range, memory_range, pile_good, script_range}
 use Rattle.files.proofs.Grammar.{section_sound, sections_complete}
@@ -65,24 +63,19 @@ refused : (whole : Bor (List ℕ)) (f : Fault) → first_fault whole.now ≡ Som
 refused whole f e = record {
   first = e;
   malformed = λ s g.
+      let bodies : List (List ℕ) =
+      (s.pile_number ∷ s.burst ∷ s.pending ∷ []) ∷ s.adapter_bytes ∷ s.wait_bytes ∷ s.gap_bytes ∷ s.memory_bytes ∷ s.command_bytes ∷ [] in
       let p : s.pile_number ≡ get_or whole.now 2 0 = sym (ap (λ (ys : List ℕ). get_or ys 2 0) g.1.2) in
-      let h : first_fault whole.now ≡ None =
-      sections_complete section.Pile (after_pile (get_or whole.now 2 0))
-      ((s.pile_number ∷ s.burst ∷ s.pending ∷ []) ∷ s.adapter_bytes ∷ s.wait_bytes ∷ s.gap_bytes ∷ s.memory_bytes ∷ s.command_bytes ∷ [])
-      whole.now 0
-      (subst (λ (n : ℕ). SectionsOf (section.Pile ∷ after_pile n)
-      ((s.pile_number ∷ s.burst ∷ s.pending ∷ []) ∷ s.adapter_bytes ∷ s.wait_bytes ∷ s.gap_bytes ∷ s.memory_bytes ∷ s.command_bytes ∷ [])
-      whole.now) p g) in
-      let z : ◌≡◌ {A = ℕ} 0 1 = cc in
-      omega arith;
+      let h = sections_complete section.Pile (after_pile (get_or whole.now 2 0)) bodies whole.now 0
+      (subst (λ (n : ℕ). SectionsOf (section.Pile ∷ after_pile n) bodies whole.now) p g) in
+      cc;
 }
 
 -- a section with a fault
 pub stop : {whole w : Bor (List ℕ)} {k : Section} {js : List Section} {from : ℕ} {f : Fault}
     → Reached whole k js w from → section_fault k w.now from ≡ Some f → Rejected whole f
 stop {whole = whole} {k = k} {js = js} {from = from} {f = f} a e =
-    refused whole f
-    (a.left ∙ sections_stop k js whole.now from f (subst (λ (v : Bor (List ℕ)). section_fault k v.now from ≡ Some f) a.same e))
+    refused whole f (a.left ∙ sections_stop k js whole.now from f (rw (← a.same) e))
 
 -- the fields of a pile's record are its bytes
 fields_are : (xs : List ℕ) (p : PileFields) → pile_in xs ≡ Some p → (length xs ≡ 3) × (p.pile ≡ get_or xs 0 0) × (p.burst_limit ≡ get_or xs 1 0) × (p.pending_limit ≡ get_or xs 2 0)
@@ -124,9 +117,8 @@ pub over : {whole w v : Bor (List ℕ)} {k : Section} {from to : ℕ} {r : Recor
 over {whole = whole} {w = w} {v = v} {k = k} {from = from} {to = to} {r = r} {f = f} a p e l =
     let q = passed_in a.same p in
     let d : v.now ≡ whole.now = ap (λ x. x.now) (e ∙ a.same) in
-    let n : to < length whole.now = subst (λ (ys : List ℕ). to < length ys) d l.0 in
-    let g = l.1 in
-    let o : rest_fault k whole.now from ≡ Some f = left_over k whole.now from to r.count f q.ends q.counted n g in
+    let n : to < length whole.now = rw d at l.0 in
+    let o : rest_fault k whole.now from ≡ Some f = left_over k whole.now from to r.count f q.ends q.counted n l.1 in
     refused whole f (a.left ∙ sections_end k whole.now from q.faultless ∙ o)
 
 -- behind the last section there is nothing
@@ -143,19 +135,15 @@ ended {whole = whole} {w = w} {v = v} {k = k} {from = from} {to = to} {r = r} a 
 section_first : {k : Section} {whole : Bor (List ℕ)} {from to : ℕ} {r : Records} (ks : List Section) (body : List ℕ) (bodies : List (List ℕ))
     → Passed k whole from r to → body ≡ r.stretch.bytes.now → SectionsOf ks bodies (drop to whole.now)
     → SectionsOf (k ∷ ks) (body ∷ bodies) (drop from whole.now)
-section_first {k = k} {whole = whole} {from = from} {to = to} {r = r} ks body bodies p e s =
-    let b : body ≡ bytes_at whole.now (from + 2) (count_at whole.now from * bytes_each k) =
-    e ∙ p.records_part.holds ∙ ap (λ (n : ℕ). bytes_at whole.now (from + 2) (n * bytes_each k)) p.counted in (
-      drop (behind k whole.now from) whole.now,
-      section_sound k whole.now body from p.faultless b,
-      subst (λ (n : ℕ). SectionsOf ks bodies (drop n whole.now)) p.ends s,
-    )
+section_first {k = k} {whole = whole} {from = from} {to = to} {r = r} ks body bodies p e s = (
+  drop (behind k whole.now from) whole.now,
+  section_sound k whole.now body from p.faultless (rw (e, p.records_part.holds, p.counted)),
+  rw (← p.ends) s,
+)
 
 lies_at : {k : Section} {whole : Bor (List ℕ)} {from to : ℕ} {r : Records} (m : ℕ) → Passed k whole from r to → from + 2 ≡ m
     → Lies whole m r.stretch
-lies_at {whole = whole} {from = from} {r = r} m p e =
-    subst (λ (n : ℕ). Lies whole n r.stretch) e
-    (subst (λ (n : ℕ). Part whole (from + 2) n r.stretch) (sym p.records_part.long) p.records_part)
+lies_at {whole = whole} {from = from} {r = r} m p e = rw (← e, p.records_part.long) p.records_part
 
 ends_at : {k : Section} {whole : Bor (List ℕ)} {from to : ℕ} {r : Records} → Passed k whole from r to
     → to ≡ r.stretch.place + length r.stretch.bytes.now

@@ -1,9 +1,8 @@
 -- Steps of the search for the first fault.
 use Rattle.std.proofs.lemmas.Grind.{common_steps}
-use Rattle.std.proofs.Common.{◌≡◌, ℕ, suc, ◌+◌, ◌-◌, ◌<◌, List, None, Option, sym, ap, ◌∙◌, arith}
-use Rattle.files.specs.declared.faults.Fault.{Fault}
+use Rattle.std.proofs.Common.{◌≡◌, ℕ, suc, ◌+◌, ◌-◌, ◌<◌, List, None, arith}
 use Rattle.files.specs.declared.section.Section.{Section}
-use Rattle.files.specs.Faults.{record_fault, records_fault, or_else}
+use Rattle.files.specs.Faults.{record_fault, records_fault}
 use Rattle.files.specs.Sections.{bytes_each}
 
 -- past a record without a fault, the fault is among those behind it

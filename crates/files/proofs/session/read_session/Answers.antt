@@ -1,7 +1,6 @@
 -- The reader's way through the six sections, up to each return: what is reached before a section is called by its name.
-use Rattle.std.proofs.Common.{[], ◌∷◌, rules}
-use Rattle.files.specs.declared.section.Section.TheVariants.{Adapters, Waits, Gaps, Memory, Commands}
-use Rattle.files.proofs.Trails.{Reached, start, go, go_pile, stop, over, ended, passed_in, accepted}
+use Rattle.std.proofs.Common.{rules}
+use Rattle.files.proofs.Trails.{start, go, go_pile, stop, over, ended, passed_in, accepted}
 use Rattle.files.proofs.session.read_session.Goals as goal
 
 pub returns-in_err-setup : goal.returns-in_err-setup
