@@ -16,6 +16,7 @@ impl<'a> Stretch<'a> {
     pub(crate) fn part(self, start: usize, size: usize) -> Option<Stretch<'a>>
         ensures { elim result [ Some s ↦ Piece self.entry start size s | None ↦ length self.entry.bytes.now < start + size ] }
     {
+        // A range by hand, since `get` does not promise where in memory its bytes lie.
         if self.bytes.len() < start || self.bytes.len() - start < size {
             return None;
         }
@@ -30,6 +31,7 @@ impl<'a> Stretch<'a> {
 /// The records of a section, one after the other.
 #[derive(Clone, Copy)]
 pub struct Records<'a> {
+    /// The count as it stands in the file: a fault behind the last record is given with it.
     pub count: u16,
     pub stretch: Stretch<'a>,
 }
@@ -52,7 +54,7 @@ pub enum SessionRecord<'a> {
 /// The fields of the pile's record.
 #[derive(Clone, Copy)]
 pub struct PileFields {
-    /// The pile's number.
+    /// The pile's number as it stands in the file; `Pile` says which pile it is.
     pub pile: u8,
     /// The greatest number of words of a burst.
     pub burst_limit: u8,
@@ -63,6 +65,7 @@ pub struct PileFields {
 /// The fields of a command's record.
 #[derive(Clone, Copy)]
 pub struct CommandFields {
+    /// The flags as they stand in the file; `CommandKind` says what they ask for.
     pub flags: u8,
     pub mask: u8,
     pub count: u16,
@@ -71,6 +74,8 @@ pub struct CommandFields {
     /// The eight data bytes.
     pub bits: u64,
 }
+
+// These two are no `TryFrom`: which fault another length would be depends on the section that the bytes are of.
 
 /// The fields of the pile's record, if there are three bytes.
 pub fn pile_fields(bytes: &[u8]) -> Option<PileFields>

@@ -63,6 +63,8 @@ impl<'a> Session<'a> {
         self.commands.bytes.len() / 16
     }
 
+    // By index: what the player would write through a `zip` of records and `iter_mut`, no proof would know.
+
     /// The record of a command, counted from 0, if there are so many.
     pub fn command(&self, index: usize) -> Option<SessionRecord<'a>>
         ensures { elim result [
@@ -70,6 +72,7 @@ impl<'a> Session<'a> {
           | None ↦ length self.now.commands.bytes.now / 16 ≤ index
         ] }
     {
+        // The length is read here, since it bounds the product.
         let size = self.commands.bytes.len();
         if index >= size / 16 {
             return None;

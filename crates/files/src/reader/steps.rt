@@ -10,6 +10,7 @@ use crate::reader::Reader;
 use crate::records::{Records, SessionRecord, Stretch};
 use crate::section::Section;
 
+// Each step says that the file stays, since a `&mut self` may change every field.
 impl<'a> Reader<'a> {
     /// A reader at the start of a file.
     pub fn new(file: &'a [u8]) -> Reader<'a>
@@ -51,6 +52,7 @@ impl<'a> Reader<'a> {
               × (self.new.place ≡ self.old.place)
         ] }
     {
+        // A range by hand, since `get` does not promise where in memory its bytes lie.
         if self.left() < size {
             return None;
         }
