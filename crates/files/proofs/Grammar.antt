@@ -1,10 +1,10 @@
 -- A file has no fault exactly when it is well formed.
-use Rattle.std.proofs.Common.{◌≡◌, ℕ, zero, suc, ◌+◌, ◌-◌, ◌*◌, ◌<◌, ◌≤◌, true, List, [], ◌∷◌, ◌++◌, length, get_or, take, drop, Some, None, Option, sym, refl, ap, ◌∙◌, subst, suc-mul, add_comm, zero-mul, arith, length-append, length-drop, take-add, rules}
-use Rattle.std.proofs.lemmas.List.{drop-drop, drop_more, get_or-drop, length-take-le, take-append-drop, take_at, drop_at, append_assoc}
+use Rattle.std.proofs.lemmas.Grind.{common_steps}
+use Rattle.std.proofs.Common.{◌≡◌, ℕ, zero, suc, ◌+◌, ◌-◌, ◌*◌, ◌<◌, ◌≤◌, true, List, [], ◌∷◌, ◌++◌, length, get_or, drop, Some, None, Option, sym, refl, ap, ◌∙◌, subst, suc-mul, zero-mul, arith, length-append, length-drop, take-add, rules}
+use Rattle.std.proofs.lemmas.List.{drop-drop, take-append-drop, drop_at}
 use Rattle.files.specs.declared.faults.Fault.{Fault}
 use Rattle.files.specs.declared.faults.FileFault.{FileFault}
 use Rattle.files.specs.declared.section.Section.{Section}
-use Rattle.files.specs.declared.section.Section.TheVariants.{Pile, Adapters, Waits, Gaps, Memory, Commands}
 use Rattle.files.specs.Bytes.{bytes_at}
 use Rattle.files.specs.Faults.{count_at, count_fault, record_fault, records_fault, section_fault, sections_fault, rest_fault, behind, or_else, found_at}
 use Rattle.files.specs.Sections.{allowed, bytes_each, wrong_in}
@@ -31,15 +31,13 @@ records_sound k xs from b (suc n) e =
     let h = both_none _ _ e in
     let g = record_sound k xs from b h.0 in
     let s : ℕ = bytes_each k in
-    let more : suc n * s ≡ s + n * s = suc-mul n s ∙ add_comm (n * s) s in
-    let fits : s ≤ length (drop from xs) = simp length-drop (omega arith) in
+    let more : suc n * s ≡ s + n * s = omega (arith, suc-mul n s) in
     let split : bytes_at xs from (suc n * s) ≡ bytes_at xs from s ++ bytes_at xs (from + s) (n * s) =
-    ap (λ (m : ℕ). take m (drop from xs)) more ∙ take-add s (n * s) (drop from xs)
-    ∙ ap (λ (l : List ℕ). take s (drop from xs) ++ take (n * s) l) (drop-drop s from xs) in (
+    rw (more, take-add s (n * s) (drop from xs), drop-drop s from xs) in (
       bytes_at xs from s,
       bytes_at xs (from + s) (n * s),
       split,
-      length-take-le s (drop from xs) fits,
+      grind (arith, common_steps),
       g.1,
       records_sound k xs (from + s) (b + 1) n h.1,
     )
@@ -48,19 +46,11 @@ records_sound k xs from b (suc n) e =
 chunk : (xs one others : List ℕ) (from s : ℕ) → drop from xs ≡ one ++ others → length one ≡ s → 0 < s
     → (from + s ≤ length xs) × (bytes_at xs from s ≡ one) × (drop (from + s) xs ≡ others)
 chunk xs one others from s d l h =
-    let e : length xs - from ≡ length one + length others = sym (length-drop from xs) ∙ ap length d ∙ length-append one others in (
-      omega arith,
-      ap (λ (ys : List ℕ). take s ys) d ∙ take_at one others s l,
-      sym (drop-drop s from xs) ∙ ap (λ (ys : List ℕ). drop s ys) d ∙ drop_at one others s l,
-    )
+    let e : length xs - from ≡ length one + length others = sym (length-drop from xs) ∙ ap length d ∙ length-append one others in
+    (omega arith, grind (arith, common_steps), sym (drop-drop s from xs) ∙ rw d (drop_at one others s l))
 
 some_bytes : (k : Section) → 0 < bytes_each k
-some_bytes Pile = omega arith
-some_bytes (Adapters _) = omega arith
-some_bytes Waits = omega arith
-some_bytes Gaps = omega arith
-some_bytes Memory = omega arith
-some_bytes Commands = omega arith
+some_bytes k = grind arith
 
 record_complete : (k : Section) (xs one : List ℕ) (from b : ℕ) → from + bytes_each k ≤ length xs → bytes_at xs from (bytes_each k) ≡ one
     → wrong_in k one ≡ None → record_fault k xs from b ≡ None
@@ -72,11 +62,10 @@ pub records_complete : (k : Section) (xs : List ℕ) (from b n : ℕ) (body othe
 records_complete k xs from b zero body others d r = refl
 records_complete k xs from b (suc n) body others d r =
     let s : ℕ = bytes_each k in
-    let d2 : drop from xs ≡ r.0 ++ (r.1 ++ others) = d ∙ ap (λ (ys : List ℕ). ys ++ others) r.2 ∙ append_assoc r.0 r.1 others in
-    let p = chunk xs r.0 (r.1 ++ others) from s d2 r.3 (some_bytes k) in
+    let first : drop from xs ≡ r.0 ++ (r.1 ++ others) = grind (arith, common_steps) in
+    let p = chunk xs r.0 (r.1 ++ others) from s first r.3 (some_bytes k) in
     let one = record_complete k xs r.0 from b p.0 p.1 r.4 in
-    let rest = records_complete k xs (from + s) (b + 1) n r.1 others p.2 r.5 in
-    ap (λ (o : Option Fault). or_else o (records_fault k xs (from + s) (b + 1) n)) one ∙ rest
+    rw one (records_complete k xs (from + s) (b + 1) n r.1 others p.2 r.5)
 
 pub count_sound : (k : Section) (xs : List ℕ) (from : ℕ) → count_fault k xs from ≡ None
     → (from + 2 ≤ length xs) × (allowed k (count_at xs from) ≡ true)
@@ -87,13 +76,7 @@ count_is xs from = omega arith
 
 -- the count and what comes behind it
 count_first : (xs : List ℕ) (from : ℕ) → from + 2 ≤ length xs → drop from xs ≡ get_or xs from 0 ∷ get_or xs (from + 1) 0 ∷ drop (from + 2) xs
-count_first xs from h =
-    let a : from < length xs = omega arith in
-    let b : from + 1 < length xs = omega arith in
-    let n : from + 1 + 1 ≡ from + 2 = omega arith in
-    drop_more xs from 0 a
-    ∙ ap (λ (ys : List ℕ). get_or xs from 0 ∷ ys) (drop_more xs (from + 1) 0 b)
-    ∙ ap (λ (m : ℕ). get_or xs from 0 ∷ get_or xs (from + 1) 0 ∷ drop m xs) n
+count_first xs from h = grind (arith, common_steps)
 
 -- a section without a fault is a good section
 pub section_sound : (k : Section) (xs body : List ℕ) (from : ℕ) → section_fault k xs from ≡ None
@@ -103,27 +86,23 @@ section_sound k xs body from e s =
     let g = count_sound k xs from h.0 in
     let n = count_is xs from in
     let m : ℕ = count_at xs from * bytes_each k in
+    let first = count_first xs from g.0 in
     let rest : drop (from + 2) xs ≡ body ++ drop (behind k xs from) xs =
-    sym (take-append-drop m (drop (from + 2) xs))
-    ∙ ap (λ (ys : List ℕ). take m (drop (from + 2) xs) ++ ys) (drop-drop m (from + 2) xs)
-    ∙ ap (λ (ys : List ℕ). ys ++ drop (behind k xs from) xs) (sym s) in (
+    rw (s, ← drop-drop m (from + 2) xs) (sym (take-append-drop m (drop (from + 2) xs))) in
+    let whole : drop from xs ≡ get_or xs from 0 ∷ get_or xs (from + 1) 0 ∷ (body ++ drop (behind k xs from) xs) = cc in (
       get_or xs from 0,
       get_or xs (from + 1) 0,
-      count_first xs from g.0 ∙ ap (λ (ys : List ℕ). get_or xs from 0 ∷ get_or xs (from + 1) 0 ∷ ys) rest,
+      whole,
       subst (λ (c : ℕ). allowed k c ≡ true) n g.1,
-      subst (λ (c : ℕ). RecordsOf k c body) n
-          (subst (λ (ys : List ℕ). RecordsOf k (count_at xs from) ys) (sym s) (records_sound k xs (from + 2) 1 (count_at xs from) h.1)),
+      subst (λ (c : ℕ). RecordsOf k c body) n (rw s (records_sound k xs (from + 2) 1 (count_at xs from) h.1)),
     )
 
 records_length : (k : Section) (n : ℕ) (body : List ℕ) → RecordsOf k n body → length body ≡ n * bytes_each k
-records_length k zero body e = ap length e ∙ sym (zero-mul (bytes_each k))
+records_length k zero body e = grind (arith, common_steps)
 records_length k (suc n) body r =
-    let s : ℕ = bytes_each k in
     let i = records_length k n r.1 r.5 in
     let l : length body ≡ length r.0 + length r.1 = ap length r.2 ∙ length-append r.0 r.1 in
-    let m : suc n * s ≡ n * s + s = suc-mul n s in
-    let o = r.3 in
-    omega arith
+    grind (arith, common_steps)
 
 count_complete : (k : Section) (xs : List ℕ) (from : ℕ) → from + 2 ≤ length xs → allowed k (count_at xs from) ≡ true → count_fault k xs from ≡ None
 count_complete k xs from h a = search rules
@@ -132,22 +111,15 @@ count_complete k xs from h a = search rules
 pub section_complete : (k : Section) (xs body others : List ℕ) (from : ℕ) → SectionOf k body others (drop from xs)
     → (section_fault k xs from ≡ None) × (drop (behind k xs from) xs ≡ others)
 section_complete k xs body others from s =
-    let lo : ℕ = s.0 in
-    let hi : ℕ = s.1 in
-    let p = chunk xs (lo ∷ hi ∷ []) (body ++ others) from 2 s.2 refl (omega arith) in
-    let a : get_or xs (from + 0) 0 ≡ lo = sym (get_or-drop from xs 0 0) ∙ ap (λ (ys : List ℕ). get_or ys 0 0) s.2 in
-    let b : get_or xs (from + 1) 0 ≡ hi = sym (get_or-drop from xs 1 0) ∙ ap (λ (ys : List ℕ). get_or ys 1 0) s.2 in
-    let z : from + 0 ≡ from = omega arith in
-    let a2 : get_or xs from 0 ≡ lo = sym (ap (λ (m : ℕ). get_or xs m 0) z) ∙ a in
-    let n : lo + 256 * hi ≡ count_at xs from = omega arith in
-    let ok : count_fault k xs from ≡ None = count_complete k xs from p.0 (subst (λ (c : ℕ). allowed k c ≡ true) n s.3) in
-    let good : records_fault k xs (from + 2) 1 (count_at xs from) ≡ None =
-    records_complete k xs (from + 2) 1 (count_at xs from) body others p.2 (subst (λ (c : ℕ). RecordsOf k c body) n s.4) in
-    let long : length body ≡ count_at xs from * bytes_each k = records_length k (count_at xs from) body (subst (λ (c : ℕ). RecordsOf k c body) n s.4) in
-    let m : ℕ = count_at xs from * bytes_each k in (
-      ap (λ (o : Option Fault). or_else o (records_fault k xs (from + 2) 1 (count_at xs from))) ok ∙ good,
-      sym (drop-drop m (from + 2) xs) ∙ ap (λ (ys : List ℕ). drop m ys) p.2 ∙ drop_at body others m long,
-    )
+    let p = chunk xs (s.0 ∷ s.1 ∷ []) (body ++ others) from 2 s.2 refl (omega arith) in
+    let low : get_or xs from 0 ≡ s.0 = grind (arith, common_steps) in
+    let high : get_or xs (from + 1) 0 ≡ s.1 = grind (arith, common_steps) in
+    let n : s.0 + 256 * s.1 ≡ count_at xs from = omega arith in
+    let body_records = subst (λ (c : ℕ). RecordsOf k c body) n s.4 in
+    let ok = count_complete k xs from p.0 (subst (λ (c : ℕ). allowed k c ≡ true) n s.3) in
+    let good = records_complete k xs (from + 2) 1 (count_at xs from) body others p.2 body_records in
+    let m : ℕ = count_at xs from * bytes_each k in
+    (rw ok good, sym (drop-drop m (from + 2) xs) ∙ rw p.2 (drop_at body others m (records_length k (count_at xs from) body body_records)))
 
 rest_complete : (k : Section) (xs : List ℕ) (from : ℕ) → drop (behind k xs from) xs ≡ [] → rest_fault k xs from ≡ None
 rest_complete k xs from e =

@@ -1,22 +1,24 @@
 -- The numbers of sections without a fault are in their ranges.
-use Rattle.std.proofs.Common.{◌≡◌, ℕ, zero, suc, ◌+◌, ◌*◌, ◌%◌, ◌<◌, ◌≤◌, true, ◌&&◌, eqb, leb, List, length, get_or, drop, Some, None, Option, sym, refl, ap, ◌∙◌, subst, suc-mul, zero-mul, arith, Bor, rules}
-use Rattle.std.proofs.lemmas.List.{get_or-drop, get_or-take}
+use Rattle.std.proofs.lemmas.Grind.{common_steps}
+use Rattle.std.proofs.Common.{◌≡◌, ℕ, zero, suc, ◌+◌, ◌*◌, ◌%◌, ◌<◌, ◌≤◌, true, ◌&&◌, eqb, leb, List, length, get_or, Some, None, Option, sym, ap, subst, suc-mul, zero-mul, arith, Bor, rules}
+use Rattle.std.specs.Option.{option_map}
+use Rattle.files.specs.declared.kinds.Pile.{Pile}
 use Rattle.files.specs.declared.records.PileFields.{PileFields}
 use Rattle.files.specs.declared.records.Records.{Records}
 use Rattle.files.specs.declared.section.Section.{Section}
-use Rattle.files.specs.declared.section.Section.TheVariants.{Pile, Commands}
+use Rattle.files.specs.declared.section.Section.TheVariants.{Commands}
+use Rattle.files.specs.declared.section.Section.TheVariants as section
 use Rattle.files.specs.Bytes.{bytes_at}
-use Rattle.files.specs.Faults.{records_fault}
+use Rattle.files.specs.Faults.{count_at, records_fault}
 use Rattle.files.specs.Fields.{pile_in}
+use Rattle.files.specs.Kinds.{adapters_each, pile_of}
 use Rattle.files.specs.Parts.{Passed}
-use Rattle.files.specs.Sections.{allowed, from_to, bytes_each, command_wrong, pile_wrong, same_number, unless_pile, wrong_in}
+use Rattle.files.specs.Sections.{adapters_in, allowed, from_to, bytes_each, command_wrong, pile_wrong, unless_pile, wrong_in}
 use Rattle.files.proofs.Grammar.{both_none, count_sound, record_sound}
 
 -- the count of a section that was read is one that it allows
 pub count_allowed : {k : Section} {whole : Bor (List ℕ)} {from to : ℕ} {r : Records} → Passed k whole from r to → allowed k r.count ≡ true
-count_allowed {k = k} {whole = whole} {from = from} p =
-    let g = count_sound k whole.now from (both_none _ _ p.faultless).0 in
-    subst (λ (n : ℕ). allowed k n ≡ true) (sym p.counted) g.1
+count_allowed {k = k} {whole = whole} {from = from} p = search (rules, count_sound, both_none)
 
 -- nothing is wrong with any record of records without a fault
 each_good : (k : Section) (xs : List ℕ) (from b n i : ℕ) → records_fault k xs from b n ≡ None → i < n
@@ -24,19 +26,16 @@ each_good : (k : Section) (xs : List ℕ) (from b n i : ℕ) → records_fault k
 each_good k xs from b zero i e h = absurd (omega arith)
 each_good k xs from b (suc n) zero e h =
     let z : from ≡ from + zero * bytes_each k = omega (arith, zero-mul (bytes_each k)) in
-    let g = record_sound k xs from b (both_none _ _ e).0 in
-    subst (λ (m : ℕ). wrong_in k (bytes_at xs m (bytes_each k)) ≡ None) z g.1
+    rw (← z) (record_sound k xs from b (both_none _ _ e).0).1
 each_good k xs from b (suc n) (suc i) e h =
-    let l : i < n = omega arith in
     let z : from + bytes_each k + i * bytes_each k ≡ from + suc i * bytes_each k = omega (arith, suc-mul i (bytes_each k)) in
-    let g = each_good k xs (from + bytes_each k) (b + 1) n i (both_none _ _ e).1 l in
-    subst (λ (m : ℕ). wrong_in k (bytes_at xs m (bytes_each k)) ≡ None) z g
+    rw (← z) (each_good k xs (from + bytes_each k) (b + 1) n i (both_none _ _ e).1 (omega arith))
 
 -- nothing is wrong with any record of a section that was read
 pub record_good : {k : Section} {whole : Bor (List ℕ)} {from to : ℕ} {r : Records} (i : ℕ) → Passed k whole from r to → i < r.count
     → wrong_in k (bytes_at whole.now (from + 2 + i * bytes_each k) (bytes_each k)) ≡ None
 record_good {k = k} {whole = whole} {from = from} {r = r} i p h =
-    each_good k whole.now (from + 2) 1 _ i (both_none _ _ p.faultless).1 (subst (λ (n : ℕ). i < n) p.counted h)
+    each_good k whole.now (from + 2) 1 (count_at whole.now from) i (both_none _ _ p.faultless).1 (omega (arith, p.counted))
 
 pub script_range : (n l : ℕ) → from_to 1 256 n ≡ true → l ≡ n * 1 → (1 ≤ l) × (l ≤ 256)
 script_range n l e h = search rules
@@ -44,9 +43,9 @@ script_range n l e h = search rules
 pub memory_range : (n l : ℕ) → (from_to 8 32768 n && eqb (n % 8) 0) ≡ true → l ≡ n * 1 → (8 ≤ l) × (l ≤ 32768) × (l % 8 ≡ 0)
 memory_range n l e h = search rules
 
-pub adapters_range : (o : Option ℕ) (n l : ℕ) → same_number o n ≡ true → l ≡ n * 2 → (m : ℕ) × (o ≡ Some m) × (l ≡ m * 2)
-adapters_range (Some m) n l e h = (m, refl, search rules)
-adapters_range None n l e h = search rules
+pub adapters_range : (p : Pile) (number n l : ℕ) → pile_of number ≡ Some p → eqb n (adapters_each p) ≡ true → l ≡ n * 2
+    → (m : ℕ) × (adapters_in number ≡ Some m) × (l ≡ m * 2)
+adapters_range p number n l k e h = (adapters_each p, ap (λ (o : Option Pile). option_map adapters_each o) k, search rules)
 
 pub fields_range : (xs : List ℕ) (p : PileFields) → pile_wrong xs ≡ None → Some p ≡ pile_in xs
     → (1 ≤ p.burst_limit) × (p.burst_limit ≤ 64) × (1 ≤ p.pending_limit) × (p.pending_limit ≤ 16)
@@ -64,26 +63,13 @@ pub command_flags : {whole : Bor (List ℕ)} {from to : ℕ} {r : Records} → P
     → (i : ℕ) → 16 * i < length r.stretch.bytes.now → get_or r.stretch.bytes.now (16 * i) 0 ≤ 3
 command_flags {whole = whole} {from = from} {r = r} p i h =
     let long = p.records_part.long in
-    let l : i < r.count = omega arith in
-    let m : 16 * i < r.count * 16 = omega arith in
-    let good = flags_range (bytes_at whole.now (from + 2 + i * 16) 16) (record_good i p l) in
-    let a : get_or (bytes_at whole.now (from + 2 + i * 16) 16) 0 0 ≡ get_or whole.now (from + 2 + i * 16 + 0) 0 =
-    get_or-take 16 (drop (from + 2 + i * 16) whole.now) 0 0 (omega arith) ∙ get_or-drop (from + 2 + i * 16) whole.now 0 0 in
-    let b : get_or r.stretch.bytes.now (16 * i) 0 ≡ get_or whole.now (from + 2 + 16 * i) 0 =
-    ap (λ (ys : List ℕ). get_or ys (16 * i) 0) p.records_part.holds
-    ∙ get_or-take (r.count * 16) (drop (from + 2) whole.now) (16 * i) 0 m ∙ get_or-drop (from + 2) whole.now (16 * i) 0 in
-    let n : from + 2 + 16 * i ≡ from + 2 + i * 16 + 0 = omega arith in
-    let e : get_or r.stretch.bytes.now (16 * i) 0 ≡ get_or (bytes_at whole.now (from + 2 + i * 16) 16) 0 0 =
-    b ∙ ap (λ (j : ℕ). get_or whole.now j 0) n ∙ sym a in
-    subst (λ (v : ℕ). v ≤ 3) (sym e) good
+    let holds = p.records_part.holds in
+    let good = flags_range (bytes_at whole.now (from + 2 + i * 16) 16) (record_good i p (omega arith)) in
+    grind (arith, common_steps)
 
-pub pile_good : {whole : Bor (List ℕ)} {from to : ℕ} {r : Records} → Passed Pile whole from r to → length r.stretch.bytes.now ≡ 3
+pub pile_good : {whole : Bor (List ℕ)} {from to : ℕ} {r : Records} → Passed section.Pile whole from r to → length r.stretch.bytes.now ≡ 3
     → pile_wrong r.stretch.bytes.now ≡ None
 pile_good {whole = whole} {from = from} {r = r} p h =
     let long = p.records_part.long in
-    let l : 0 < r.count = omega arith in
-    let m : r.count * 3 ≡ 3 = omega arith in
-    let n : from + 2 ≡ from + 2 + 0 * 3 = omega arith in
-    let e : r.stretch.bytes.now ≡ bytes_at whole.now (from + 2 + 0 * 3) 3 =
-    p.records_part.holds ∙ ap (λ (j : ℕ). bytes_at whole.now (from + 2) j) m ∙ ap (λ (j : ℕ). bytes_at whole.now j 3) n in
-    subst (λ (ys : List ℕ). pile_wrong ys ≡ None) (sym e) (record_good 0 p l)
+    let good = record_good 0 p (omega arith) in
+    grind (arith, common_steps)

@@ -1,18 +1,20 @@
 -- The way of a reader through a session file, section by section.
-use Rattle.std.proofs.Common.{◌≡◌, ℕ, ◌+◌, ◌*◌, ◌<◌, List, [], ◌∷◌, length, get_or, drop, Some, None, Option, sym, refl, ap, ◌∙◌, subst, arith, Bor, rules}
-use Rattle.std.proofs.lemmas.List.{get_or-drop, get_or-take, drop_all}
+use Rattle.std.proofs.lemmas.Grind.{common_steps}
+use Rattle.std.proofs.Common.{◌≡◌, ℕ, ◌+◌, ◌<◌, List, [], ◌∷◌, length, get_or, drop, Some, None, Option, sym, refl, ap, ◌∙◌, subst, arith, Bor, rules}
+use Rattle.std.proofs.lemmas.List.{drop_all}
 use Rattle.files.specs.declared.faults.Fault.{Fault}
 use Rattle.files.specs.declared.faults.FileFault.TheVariants.{Broken}
 use Rattle.files.specs.declared.records.PileFields.{PileFields}
 use Rattle.files.specs.declared.records.Records.{Records}
 use Rattle.files.specs.declared.section.Section.{Section}
-use Rattle.files.specs.declared.section.Section.TheVariants.{Pile, Adapters, Waits, Gaps, Memory, Commands}
-use Rattle.files.specs.Bytes.{bytes_at}
-use Rattle.files.specs.Faults.{count_at, section_fault, sections_fault, rest_fault, after_pile, first_fault, fault_at, behind, or_else}
+use Rattle.files.specs.declared.section.Section.TheVariants.{Adapters, Waits, Gaps, Memory, Commands}
+use Rattle.files.specs.declared.section.Section.TheVariants as section
+use Rattle.files.specs.declared.kinds.Pile.{Pile}
+use Rattle.files.specs.Kinds.{pile_of}
+use Rattle.files.specs.Faults.{count_at, section_fault, sections_fault, rest_fault, after_pile, sections_after, first_fault, fault_at, behind}
 use Rattle.files.specs.Forms.{SectionsOf}
-use Rattle.files.specs.Parts.{Part, Passed}
+use Rattle.files.specs.Parts.{Passed}
 use Rattle.files.specs.Fields.{pile_in}
-use Rattle.files.specs.Sections.{adapters_in, bytes_each}
 use Rattle.files.specs.Sessions.{Accepted, Lies, Rejected, past_count}
 use Rattle.files.proofs.Ranges.{adapters_range, command_flags, commands_range, count_allowed, fields_range, memory_range, pile_good, script_range}
 use Rattle.files.proofs.Grammar.{section_sound, sections_complete}
@@ -23,28 +25,28 @@ pub record Reached (whole : Bor (List ℕ)) (k : Section) (js : List Section) (w
   pub left : first_fault whole.now ≡ sections_fault k js whole.now from
 
 pub start : (whole w : Bor (List ℕ)) (from : ℕ) → w ≡ whole → from ≡ 0
-    → Reached whole Pile (after_pile (get_or whole.now 2 0)) w from
-start whole w from e z = record { same = e; left = ap (λ (m : ℕ). sections_fault Pile (after_pile (get_or whole.now 2 0)) whole.now m) (sym z) }
+    → Reached whole section.Pile (after_pile (get_or whole.now 2 0)) w from
+start whole w from e z = record { same = e; left = rw z }
 
 sections_go : (k j : Section) (js : List Section) (xs : List ℕ) (from : ℕ) → section_fault k xs from ≡ None
     → sections_fault k (j ∷ js) xs from ≡ sections_fault j js xs (behind k xs from)
 unfolding sections_fault
-sections_go k j js xs from e = ap (λ (o : Option Fault). or_else o (sections_fault j js xs (behind k xs from))) e
+sections_go k j js xs from e = rw e
 
 sections_end : (k : Section) (xs : List ℕ) (from : ℕ) → section_fault k xs from ≡ None
     → sections_fault k [] xs from ≡ rest_fault k xs from
 unfolding sections_fault
-sections_end k xs from e = ap (λ (o : Option Fault). or_else o (rest_fault k xs from)) e
+sections_end k xs from e = rw e
 
 sections_stop : (k : Section) (js : List Section) (xs : List ℕ) (from : ℕ) (f : Fault) → section_fault k xs from ≡ Some f
     → sections_fault k js xs from ≡ Some f
 unfolding sections_fault
-sections_stop k [] xs from f e = ap (λ (o : Option Fault). or_else o (rest_fault k xs from)) e
-sections_stop k (j ∷ js) xs from f e = ap (λ (o : Option Fault). or_else o (sections_fault j js xs (behind k xs from))) e
+sections_stop k [] xs from f e = rw e
+sections_stop k (j ∷ js) xs from f e = rw e
 
 -- a section of another reference to the same file
 pub passed_in : {k : Section} {whole w : Bor (List ℕ)} {from to : ℕ} {r : Records} → w ≡ whole → Passed k w from r to → Passed k whole from r to
-passed_in {k = k} {from = from} {to = to} {r = r} e p = subst (λ (v : Bor (List ℕ)). Passed k v from r to) e p
+passed_in e p = rw (← e) p
 
 -- past a section without a fault
 pub go : {whole w v : Bor (List ℕ)} {k j : Section} {js : List Section} {from to : ℕ} {r : Records}
@@ -61,49 +63,45 @@ refused : (whole : Bor (List ℕ)) (f : Fault) → first_fault whole.now ≡ Som
 refused whole f e = record {
   first = e;
   malformed = λ s g.
+      let bodies : List (List ℕ) =
+      (s.pile_number ∷ s.burst ∷ s.pending ∷ []) ∷ s.adapter_bytes ∷ s.wait_bytes ∷ s.gap_bytes ∷ s.memory_bytes ∷ s.command_bytes ∷ [] in
       let p : s.pile_number ≡ get_or whole.now 2 0 = sym (ap (λ (ys : List ℕ). get_or ys 2 0) g.1.2) in
-      let h : first_fault whole.now ≡ None =
-      sections_complete Pile (after_pile (get_or whole.now 2 0))
-      ((s.pile_number ∷ s.burst ∷ s.pending ∷ []) ∷ s.adapter_bytes ∷ s.wait_bytes ∷ s.gap_bytes ∷ s.memory_bytes ∷ s.command_bytes ∷ [])
-      whole.now 0
-      (subst (λ (n : ℕ). SectionsOf (Pile ∷ after_pile n)
-      ((s.pile_number ∷ s.burst ∷ s.pending ∷ []) ∷ s.adapter_bytes ∷ s.wait_bytes ∷ s.gap_bytes ∷ s.memory_bytes ∷ s.command_bytes ∷ [])
-      whole.now) p g) in
-      let z : ◌≡◌ {A = ℕ} 0 1 = cc in
-      omega arith;
+      let h = sections_complete section.Pile (after_pile (get_or whole.now 2 0)) bodies whole.now 0
+      (subst (λ (n : ℕ). SectionsOf (section.Pile ∷ after_pile n) bodies whole.now) p g) in
+      cc;
 }
 
 -- a section with a fault
 pub stop : {whole w : Bor (List ℕ)} {k : Section} {js : List Section} {from : ℕ} {f : Fault}
     → Reached whole k js w from → section_fault k w.now from ≡ Some f → Rejected whole f
 stop {whole = whole} {k = k} {js = js} {from = from} {f = f} a e =
-    refused whole f
-    (a.left ∙ sections_stop k js whole.now from f (subst (λ (v : Bor (List ℕ)). section_fault k v.now from ≡ Some f) a.same e))
+    refused whole f (a.left ∙ sections_stop k js whole.now from f (rw (← a.same) e))
 
 -- the fields of a pile's record are its bytes
 fields_are : (xs : List ℕ) (p : PileFields) → pile_in xs ≡ Some p → (length xs ≡ 3) × (p.pile ≡ get_or xs 0 0) × (p.burst_limit ≡ get_or xs 1 0) × (p.pending_limit ≡ get_or xs 2 0)
 fields_are xs p e = search rules
 
 -- the pile's number is the file's byte 2
-pile_is : {whole : Bor (List ℕ)} {from to : ℕ} {r : Records} (p : PileFields) → Passed Pile whole from r to → from ≡ 0
+pile_is : {whole : Bor (List ℕ)} {from to : ℕ} {r : Records} (p : PileFields) → Passed section.Pile whole from r to → from ≡ 0
     → Some p ≡ pile_in r.stretch.bytes.now → p.pile ≡ get_or whole.now 2 0
 pile_is {whole = whole} {from = from} {r = r} p s z e =
     let f = fields_are r.stretch.bytes.now p (sym e) in
-    let h : 0 < r.count * 3 = omega (arith, s.records_part.long) in
-    let n : from + 2 + 0 ≡ 2 = omega arith in
-    f.1 ∙ ap (λ (ys : List ℕ). get_or ys 0 0) s.records_part.holds
-    ∙ get_or-take (r.count * 3) (drop (from + 2) whole.now) 0 0 h
-    ∙ get_or-drop (from + 2) whole.now 0 0
-    ∙ ap (λ (m : ℕ). get_or whole.now m 0) n
+    let holds = s.records_part.holds in
+    let long = s.records_part.long in
+    grind (arith, common_steps)
 
--- past the pile's section, with its number
-pub go_pile : {whole w v : Bor (List ℕ)} {from to : ℕ} {r : Records} (p : PileFields) → w ≡ whole → from ≡ 0
-    → Passed Pile w from r to → v ≡ w → Some p ≡ pile_in r.stretch.bytes.now
-    → Reached whole (Adapters p.pile) (Waits ∷ Gaps ∷ Memory ∷ Commands ∷ []) v to
-go_pile {whole = whole} {w = w} {v = v} {from = from} {to = to} p e z s f t =
-    subst (λ (n : ℕ). Reached whole (Adapters n) (Waits ∷ Gaps ∷ Memory ∷ Commands ∷ []) v to)
-    (sym (pile_is p (passed_in e s) z t))
-    (go (start whole w from e z) s f)
+-- the sections behind the pile's, for a number that stands for a pile
+after_is : (p : Pile) (n : ℕ) → pile_of n ≡ Some p → after_pile n ≡ Adapters p ∷ Waits ∷ Gaps ∷ Memory ∷ Commands ∷ []
+after_is p n e = ap (λ (o : Option Pile). sections_after o) e
+
+-- past the pile's section, with its pile
+pub go_pile : {whole w v : Bor (List ℕ)} {from to : ℕ} {r : Records} {p : Pile} {q : PileFields} → (w ≡ whole) × (from ≡ 0)
+    → Passed section.Pile w from r to → v ≡ w → Some q ≡ pile_in r.stretch.bytes.now → pile_of q.pile ≡ Some p
+    → Reached whole (Adapters p) (Waits ∷ Gaps ∷ Memory ∷ Commands ∷ []) v to
+go_pile {whole = whole} {w = w} {from = from} {p = p} {q = q} (e, z) s f t k =
+    let known : pile_of (get_or whole.now 2 0) ≡ Some p =
+    subst (λ (n : ℕ). pile_of n ≡ Some p) (pile_is q (passed_in e s) z t) k in
+    go (subst (λ (js : List Section). Reached whole section.Pile js w from) (after_is p _ known) (start whole w from e z)) s f
 
 left_over : (k : Section) (xs : List ℕ) (from to n : ℕ) (f : Fault) → to ≡ behind k xs from → n ≡ count_at xs from → to < length xs
     → f ≡ fault_at k n to Broken → rest_fault k xs from ≡ Some f
@@ -119,9 +117,8 @@ pub over : {whole w v : Bor (List ℕ)} {k : Section} {from to : ℕ} {r : Recor
 over {whole = whole} {w = w} {v = v} {k = k} {from = from} {to = to} {r = r} {f = f} a p e l =
     let q = passed_in a.same p in
     let d : v.now ≡ whole.now = ap (λ x. x.now) (e ∙ a.same) in
-    let n : to < length whole.now = subst (λ (ys : List ℕ). to < length ys) d l.0 in
-    let g = l.1 in
-    let o : rest_fault k whole.now from ≡ Some f = left_over k whole.now from to r.count f q.ends q.counted n g in
+    let n : to < length whole.now = rw d at l.0 in
+    let o : rest_fault k whole.now from ≡ Some f = left_over k whole.now from to r.count f q.ends q.counted n l.1 in
     refused whole f (a.left ∙ sections_end k whole.now from q.faultless ∙ o)
 
 -- behind the last section there is nothing
@@ -138,50 +135,34 @@ ended {whole = whole} {w = w} {v = v} {k = k} {from = from} {to = to} {r = r} a 
 section_first : {k : Section} {whole : Bor (List ℕ)} {from to : ℕ} {r : Records} (ks : List Section) (body : List ℕ) (bodies : List (List ℕ))
     → Passed k whole from r to → body ≡ r.stretch.bytes.now → SectionsOf ks bodies (drop to whole.now)
     → SectionsOf (k ∷ ks) (body ∷ bodies) (drop from whole.now)
-section_first {k = k} {whole = whole} {from = from} {to = to} {r = r} ks body bodies p e s =
-    let b : body ≡ bytes_at whole.now (from + 2) (count_at whole.now from * bytes_each k) =
-    e ∙ p.records_part.holds ∙ ap (λ (n : ℕ). bytes_at whole.now (from + 2) (n * bytes_each k)) p.counted in (
-      drop (behind k whole.now from) whole.now,
-      section_sound k whole.now body from p.faultless b,
-      subst (λ (n : ℕ). SectionsOf ks bodies (drop n whole.now)) p.ends s,
-    )
+section_first {k = k} {whole = whole} {from = from} {to = to} {r = r} ks body bodies p e s = (
+  drop (behind k whole.now from) whole.now,
+  section_sound k whole.now body from p.faultless (rw (e, p.records_part.holds, p.counted)),
+  rw (← p.ends) s,
+)
 
 lies_at : {k : Section} {whole : Bor (List ℕ)} {from to : ℕ} {r : Records} (m : ℕ) → Passed k whole from r to → from + 2 ≡ m
     → Lies whole m r.stretch
-lies_at {whole = whole} {from = from} {r = r} m p e =
-    subst (λ (n : ℕ). Lies whole n r.stretch) e
-    (subst (λ (n : ℕ). Part whole (from + 2) n r.stretch) (sym p.records_part.long) p.records_part)
+lies_at {whole = whole} {from = from} {r = r} m p e = rw (← e, p.records_part.long) p.records_part
 
 ends_at : {k : Section} {whole : Bor (List ℕ)} {from to : ℕ} {r : Records} → Passed k whole from r to
     → to ≡ r.stretch.place + length r.stretch.bytes.now
-ends_at {k = k} {whole = whole} {from = from} {to = to} {r = r} p =
-    p.ends ∙ ap (λ (n : ℕ). from + 2 + n * bytes_each k) (sym p.counted)
-    ∙ (let a = p.records_part.placed in let b = p.records_part.long in omega arith)
+ends_at {k = k} {whole = whole} {from = from} {to = to} {r = r} p = grind (arith, p.ends, p.counted, p.records_part.placed, p.records_part.long)
 
 three : (xs : List ℕ) → length xs ≡ 3 → get_or xs 0 0 ∷ get_or xs 1 0 ∷ get_or xs 2 0 ∷ [] ≡ xs
-three [] e = absurd (omega arith)
-three (x ∷ []) e = absurd (omega arith)
-three (x ∷ y ∷ []) e = absurd (omega arith)
-three (x ∷ y ∷ z ∷ []) e = refl
-three (x ∷ y ∷ z ∷ v ∷ xs) e = absurd (omega arith)
+three xs e = grind (arith, common_steps)
 
 fields_all : (xs : List ℕ) (p : PileFields) → pile_in xs ≡ Some p → p.pile ∷ p.burst_limit ∷ p.pending_limit ∷ [] ≡ xs
-fields_all xs p e =
-    let f = fields_are xs p e in
-    let t = three xs f.0 in
-    let a = f.1 in
-    let b = f.2 in
-    let c = f.3 in
-    cc
+fields_all xs p e = search (rules, fields_are, three)
 
 -- six sections that were read one behind the other, up to the end of the file, are a session
-pub accepted : {whole : Bor (List ℕ)} {p0 p1 p2 p3 p4 p5 p6 : ℕ} {r1 r2 r3 r4 r5 r6 : Records} (q : PileFields)
-    → p0 ≡ 0 → Passed Pile whole p0 r1 p1 → Some q ≡ pile_in r1.stretch.bytes.now
-    → Passed (Adapters q.pile) whole p1 r2 p2 → Passed Waits whole p2 r3 p3 → Passed Gaps whole p3 r4 p4
+pub accepted : {whole : Bor (List ℕ)} {p0 p1 p2 p3 p4 p5 p6 : ℕ} {r1 r2 r3 r4 r5 r6 : Records} (p : Pile) (q : PileFields)
+    → p0 ≡ 0 → Passed section.Pile whole p0 r1 p1 → Some q ≡ pile_in r1.stretch.bytes.now → pile_of q.pile ≡ Some p
+    → Passed (Adapters p) whole p1 r2 p2 → Passed Waits whole p2 r3 p3 → Passed Gaps whole p3 r4 p4
     → Passed Memory whole p4 r5 p5 → Passed Commands whole p5 r6 p6 → p6 ≡ length whole.now → first_fault whole.now ≡ None
     → Accepted whole record
     { pile = q; adapters = r2.stretch; waits = r3.stretch; gaps = r4.stretch; memory = r5.stretch; commands = r6.stretch }
-accepted {whole = whole} {p0 = p0} {p1 = p1} {p2 = p2} {p3 = p3} {p4 = p4} {p5 = p5} {p6 = p6} {r1 = r1} {r2 = r2} {r3 = r3} {r4 = r4} {r5 = r5} {r6 = r6} q z a1 t a2 a3 a4 a5 a6 l n =
+accepted {whole = whole} {p0 = p0} {p1 = p1} {p2 = p2} {p3 = p3} {p4 = p4} {p5 = p5} {p6 = p6} {r1 = r1} {r2 = r2} {r3 = r3} {r4 = r4} {r5 = r5} {r6 = r6} p q z a1 t k a2 a3 a4 a5 a6 l n =
     let f = fields_are r1.stretch.bytes.now q (sym t) in
     let e1 = ends_at a1 in
     let e2 = ends_at a2 in
@@ -201,16 +182,17 @@ accepted {whole = whole} {p0 = p0} {p1 = p1} {p2 = p2} {p3 = p3} {p4 = p4} {p5 =
     let s4 = section_first (Memory ∷ Commands ∷ []) b4 (b5 ∷ b6 ∷ []) a4 refl s5 in
     let s3 = section_first (Gaps ∷ Memory ∷ Commands ∷ []) b3 (b4 ∷ b5 ∷ b6 ∷ []) a3 refl s4 in
     let s2 = section_first (Waits ∷ Gaps ∷ Memory ∷ Commands ∷ []) b2 (b3 ∷ b4 ∷ b5 ∷ b6 ∷ []) a2 refl s3 in
-    let s1 = section_first (after_pile q.pile) b1 (b2 ∷ b3 ∷ b4 ∷ b5 ∷ b6 ∷ []) a1 (fields_all r1.stretch.bytes.now q (sym t)) s2 in
+    let s1 = section_first (Adapters p ∷ Waits ∷ Gaps ∷ Memory ∷ Commands ∷ []) b1 (b2 ∷ b3 ∷ b4 ∷ b5 ∷ b6 ∷ []) a1 (fields_all r1.stretch.bytes.now q (sym t)) s2 in
     let g1 = fields_range r1.stretch.bytes.now q (pile_good a1 f.0) t in
-    let g2 = adapters_range (adapters_in q.pile) r2.count (length b2) (count_allowed a2) a2.records_part.long in
+    let g2 = adapters_range p q.pile r2.count (length b2) k (count_allowed a2) a2.records_part.long in
     let g3 = script_range r3.count (length b3) (count_allowed a3) a3.records_part.long in
     let g4 = script_range r4.count (length b4) (count_allowed a4) a4.records_part.long in
     let g5 = memory_range r5.count (length b5) (count_allowed a5) a5.records_part.long in
     let g6 = commands_range r6.count (length b6) (count_allowed a6) a6.records_part.long in
     record {
       faultless = n;
-      formed = subst (λ (m : ℕ). SectionsOf (Pile ∷ after_pile q.pile) (b1 ∷ b2 ∷ b3 ∷ b4 ∷ b5 ∷ b6 ∷ []) (drop m whole.now)) z s1;
+      formed = subst (λ (js : List Section). SectionsOf (section.Pile ∷ js) (b1 ∷ b2 ∷ b3 ∷ b4 ∷ b5 ∷ b6 ∷ []) whole.now) (sym (after_is p q.pile k))
+          (subst (λ (m : ℕ). SectionsOf (section.Pile ∷ Adapters p ∷ Waits ∷ Gaps ∷ Memory ∷ Commands ∷ []) (b1 ∷ b2 ∷ b3 ∷ b4 ∷ b5 ∷ b6 ∷ []) (drop m whole.now)) z s1);
       in_place = record {
         adapters_lie = lies_at 7 a2 (omega arith);
         waits_lie = lies_at (past_count r2.stretch) a3 (omega arith);

@@ -15,7 +15,7 @@ pub enum FileFault {
 pub struct Fault {
     /// What is wrong.
     pub kind: FileFault,
-    /// The section's number, from 1.
+    /// The section's number, from 1. A number, since it is only printed, and a `Section` would bring the pile along.
     pub section: u8,
     /// The record's number in its section, from 1, or 0 for the section's count.
     pub record: u16,

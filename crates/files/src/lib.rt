@@ -3,6 +3,7 @@
 #![tactic(auto)]
 
 pub mod faults;
+pub mod kinds;
 pub mod reader;
 pub mod records;
 pub mod section;

@@ -1,7 +1,6 @@
 //! The records of a session file, each as the very stretch of the file that carries it, and the fields in them.
 //! Numbers of several bytes stand low byte first.
-ghost use Rattle.std.specs.Prelude.{◌≡◌, ◌+◌, ◌*◌, ◌<◌, length, Some, None, ◌≢◌};
-ghost use Rattle.files.specs.Bytes.{number_at};
+ghost use Rattle.std.specs.Prelude.{◌≡◌, ◌+◌, ◌<◌, length, Some, None};
 ghost use Rattle.files.specs.Parts.{Piece};
 ghost use Rattle.files.specs.Fields.{command_fields_in, pile_in};
 
@@ -17,6 +16,7 @@ impl<'a> Stretch<'a> {
     pub(crate) fn part(self, start: usize, size: usize) -> Option<Stretch<'a>>
         ensures { elim result [ Some s ↦ Piece self.entry start size s | None ↦ length self.entry.bytes.now < start + size ] }
     {
+        // A range by hand, since `get` does not promise where in memory its bytes lie.
         if self.bytes.len() < start || self.bytes.len() - start < size {
             return None;
         }
@@ -31,6 +31,7 @@ impl<'a> Stretch<'a> {
 /// The records of a section, one after the other.
 #[derive(Clone, Copy)]
 pub struct Records<'a> {
+    /// The count as it stands in the file: a fault behind the last record is given with it.
     pub count: u16,
     pub stretch: Stretch<'a>,
 }
@@ -53,7 +54,7 @@ pub enum SessionRecord<'a> {
 /// The fields of the pile's record.
 #[derive(Clone, Copy)]
 pub struct PileFields {
-    /// The pile's number.
+    /// The pile's number as it stands in the file; `Pile` says which pile it is.
     pub pile: u8,
     /// The greatest number of words of a burst.
     pub burst_limit: u8,
@@ -64,6 +65,7 @@ pub struct PileFields {
 /// The fields of a command's record.
 #[derive(Clone, Copy)]
 pub struct CommandFields {
+    /// The flags as they stand in the file; `CommandKind` says what they ask for.
     pub flags: u8,
     pub mask: u8,
     pub count: u16,
@@ -72,6 +74,8 @@ pub struct CommandFields {
     /// The eight data bytes.
     pub bits: u64,
 }
+
+// These two are no `TryFrom`: which fault another length would be depends on the section that the bytes are of.
 
 /// The fields of the pile's record, if there are three bytes.
 pub fn pile_fields(bytes: &[u8]) -> Option<PileFields>
@@ -94,36 +98,12 @@ pub fn command_fields(bytes: &[u8]) -> Option<CommandFields>
     let [flags, mask, c0, c1, a0, a1, a2, a3, rest @ ..] = bytes else {
         return None;
     };
-    let bits = word(rest)?;
-    let count = two_bytes(*c0, *c1);
-    let address = two_bytes(*a0, *a1) as u32 + 65536 * (two_bytes(*a2, *a3) as u32);
+    let data = <[u8; 8]>::try_from(rest).ok()?;
     Some(CommandFields {
         flags: *flags,
         mask: *mask,
-        count,
-        address,
-        bits,
+        count: u16::from_le_bytes([*c0, *c1]),
+        address: u32::from_le_bytes([*a0, *a1, *a2, *a3]),
+        bits: u64::from_le_bytes(data),
     })
-}
-
-/// The number of two bytes.
-pub(crate) fn two_bytes(low: u8, high: u8) -> u16
-    ensures { result ≡ low + 256 * high }
-{
-    low as u16 + 256 * (high as u16)
-}
-
-/// The number of eight bytes, if there are eight.
-fn word(bytes: &[u8]) -> Option<u64>
-    ensures { elim result [
-      | Some n ↦ (length bytes.now ≡ 8) × (n ≡ number_at bytes.now 0 8)
-      | None ↦ (length bytes.now ≢ 8)
-    ] }
-{
-    let [d0, d1, d2, d3, d4, d5, d6, d7] = bytes else {
-        return None;
-    };
-    let low = two_bytes(*d0, *d1) as u64 + 65536 * (two_bytes(*d2, *d3) as u64);
-    let high = two_bytes(*d4, *d5) as u64 + 65536 * (two_bytes(*d6, *d7) as u64);
-    Some(low + 4294967296 * high)
 }

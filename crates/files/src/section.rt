@@ -5,13 +5,14 @@ ghost use Rattle.files.specs.Faults.{fault_at};
 ghost use Rattle.files.specs.Sections.{adapters_in, allowed, bytes_each, carrier, command_wrong, pile_wrong, rank, ranged, record_in, wrong};
 
 use crate::faults::{Fault, FileFault};
+use crate::kinds::{CommandKind, Pile};
 use crate::records::{PileFields, SessionRecord, Stretch, command_fields, pile_fields};
 
-/// A section of a session file. The adapters' is known only with the pile's number.
+/// A section of a session file. The adapters' is known only with the pile.
 #[derive(Clone, Copy)]
 pub enum Section {
     Pile,
-    Adapters(u8),
+    Adapters(Pile),
     Waits,
     Gaps,
     Memory,
@@ -22,10 +23,7 @@ pub enum Section {
 pub fn adapters_of(pile: u8) -> Option<u8>
     ensures { result ≡ adapters_in pile }
 {
-    match pile {
-        2 => Some(0),
-        _ => None,
-    }
+    Some(Pile::try_from(pile).ok()?.adapters())
 }
 
 impl Section {
@@ -61,12 +59,9 @@ impl Section {
     {
         match self {
             Section::Pile => count == 1,
-            Section::Adapters(pile) => match adapters_of(pile) {
-                Some(adapters) => count == adapters as u16,
-                None => false,
-            },
-            Section::Waits | Section::Gaps => 1 <= count && count <= 256,
-            Section::Memory => 8 <= count && count <= 32768 && count % 8 == 0,
+            Section::Adapters(pile) => count == u16::from(pile.adapters()),
+            Section::Waits | Section::Gaps => (1..=256).contains(&count),
+            Section::Memory => (8..=32768).contains(&count) && count % 8 == 0,
             Section::Commands => count <= 1024,
         }
     }
@@ -103,11 +98,11 @@ impl<'a> SessionRecord<'a> {
         ensures { result ≡ carrier self.entry }
     {
         match self {
-            SessionRecord::Pile(stretch) => stretch,
-            SessionRecord::Adapter(stretch) => stretch,
-            SessionRecord::Script(stretch) => stretch,
-            SessionRecord::Memory(stretch) => stretch,
-            SessionRecord::Command(stretch) => stretch,
+            SessionRecord::Pile(stretch)
+            | SessionRecord::Adapter(stretch)
+            | SessionRecord::Script(stretch)
+            | SessionRecord::Memory(stretch)
+            | SessionRecord::Command(stretch) => stretch,
         }
     }
 
@@ -137,9 +132,9 @@ fn pile_fault(bytes: &[u8]) -> Option<FileFault>
 fn in_range(fields: PileFields) -> bool
     ensures { result ≡ ranged fields }
 {
-    adapters_of(fields.pile).is_some()
-        && (1 <= fields.burst_limit && fields.burst_limit <= 64)
-        && (1 <= fields.pending_limit && fields.pending_limit <= 16)
+    Pile::try_from(fields.pile).is_ok()
+        && (1..=64).contains(&fields.burst_limit)
+        && (1..=16).contains(&fields.pending_limit)
 }
 
 /// What is wrong with the bytes of a command's record.
@@ -147,7 +142,7 @@ fn command_fault(bytes: &[u8]) -> Option<FileFault>
     ensures { result ≡ command_wrong bytes.now }
 {
     match command_fields(bytes) {
-        Some(fields) if fields.flags <= 3 => None,
-        _ => Some(FileFault::Broken),
+        Some(fields) => CommandKind::try_from(fields.flags).err(),
+        None => Some(FileFault::Broken),
     }
 }

@@ -6,6 +6,7 @@ ghost use Rattle.files.specs.declared.records.SessionRecord.TheVariants.{Command
 ghost use Rattle.files.specs.Sessions.{Accepted, Rejected};
 
 use crate::faults::Fault;
+use crate::kinds::Pile;
 use crate::reader::Reader;
 use crate::records::{PileFields, SessionRecord, Stretch, pile_fields};
 use crate::section::Section;
@@ -35,7 +36,10 @@ pub fn read_session(file: &[u8]) -> Result<Session<'_>, Fault>
     let Some(pile) = pile_fields(setup.stretch.bytes) else {
         unreachable()
     };
-    let adapters = reader.section(Section::Adapters(pile.pile))?;
+    let Ok(kind) = Pile::try_from(pile.pile) else {
+        unreachable()
+    };
+    let adapters = reader.section(Section::Adapters(kind))?;
     let waits = reader.section(Section::Waits)?;
     let gaps = reader.section(Section::Gaps)?;
     let memory = reader.section(Section::Memory)?;
@@ -59,6 +63,8 @@ impl<'a> Session<'a> {
         self.commands.bytes.len() / 16
     }
 
+    // By index: what the player would write through a `zip` of records and `iter_mut`, no proof would know.
+
     /// The record of a command, counted from 0, if there are so many.
     pub fn command(&self, index: usize) -> Option<SessionRecord<'a>>
         ensures { elim result [
@@ -66,6 +72,7 @@ impl<'a> Session<'a> {
           | None ↦ length self.now.commands.bytes.now / 16 ≤ index
         ] }
     {
+        // The length is read here, since it bounds the product.
         let size = self.commands.bytes.len();
         if index >= size / 16 {
             return None;

@@ -1,4 +1,5 @@
 //! Session files: a good one, and the first faults of bad ones.
+use files::faults::FileFault::{Broken, OutOfRange};
 use files::faults::{Fault, FileFault};
 use files::records::{SessionRecord, command_fields};
 use files::session::read_session;
@@ -12,24 +13,12 @@ const GOOD: [u8; 74] =
     \x01\x00\x00\x00\x00\x00\x00\x00\x00\x00\x00\x00\x00\x00\x00\x00";
 
 fn fault_of(file: &[u8]) -> Option<Fault> {
-    match read_session(file) {
-        Ok(_) => None,
-        Err(fault) => Some(fault),
-    }
+    read_session(file).err()
 }
 
-fn broken(section: u8, record: u16, byte: usize) -> Option<Fault> {
+fn fault(kind: FileFault, section: u8, record: u16, byte: usize) -> Option<Fault> {
     Some(Fault {
-        kind: FileFault::Broken,
-        section,
-        record,
-        byte,
-    })
-}
-
-fn out_of_range(section: u8, record: u16, byte: usize) -> Option<Fault> {
-    Some(Fault {
-        kind: FileFault::OutOfRange,
+        kind,
         section,
         record,
         byte,
@@ -62,33 +51,33 @@ fn good_file(rt: HostRuntime) -> Result<(), Fail> {
 
 #[test]
 fn early_ends(rt: HostRuntime) {
-    assert_eq!(rt; fault_of(&[]), broken(1, 0, 0));
-    assert_eq!(rt; fault_of(&GOOD[0..6]), broken(2, 0, 6));
-    assert_eq!(rt; fault_of(&GOOD[0..66]), broken(6, 3, 66));
+    assert_eq!(rt; fault_of(&[]), fault(Broken, 1, 0, 0));
+    assert_eq!(rt; fault_of(&GOOD[0..6]), fault(Broken, 2, 0, 6));
+    assert_eq!(rt; fault_of(&GOOD[0..66]), fault(Broken, 6, 3, 66));
     let mut file = GOOD;
     file[26] = 4;
-    assert_eq!(rt; fault_of(&file[0..66]), broken(6, 1, 26));
+    assert_eq!(rt; fault_of(&file[0..66]), fault(Broken, 6, 1, 26));
 }
 
 #[test]
 fn numbers_out_of_range(rt: HostRuntime) {
     let mut file = GOOD;
     file[4] = 17;
-    assert_eq!(rt; fault_of(&file), out_of_range(1, 1, 2));
+    assert_eq!(rt; fault_of(&file), fault(OutOfRange, 1, 1, 2));
     file = GOOD;
     file[3] = 65;
-    assert_eq!(rt; fault_of(&file), out_of_range(1, 1, 2));
+    assert_eq!(rt; fault_of(&file), fault(OutOfRange, 1, 1, 2));
     file = GOOD;
     file[2] = 3;
-    assert_eq!(rt; fault_of(&file), out_of_range(1, 1, 2));
+    assert_eq!(rt; fault_of(&file), fault(OutOfRange, 1, 1, 2));
 }
 
 #[test]
 fn counts(rt: HostRuntime) {
     let mut file = GOOD;
     file[5] = 1;
-    assert_eq!(rt; fault_of(&file[0..7]), out_of_range(2, 0, 5));
+    assert_eq!(rt; fault_of(&file[0..7]), fault(OutOfRange, 2, 0, 5));
     file = GOOD;
     file[24] = 2;
-    assert_eq!(rt; fault_of(&file), broken(6, 2, 58));
+    assert_eq!(rt; fault_of(&file), fault(Broken, 6, 2, 58));
 }

@@ -2,6 +2,7 @@
 ghost use Rattle.std.specs.Prelude.{◌≡◌, Some, None, Ok, Err};
 ghost use Rattle.tools.specs.Calls.{Converted, Placed, Played, all_lanes};
 
+use files::kinds::CommandKind;
 use files::records::CommandFields;
 use port::addresses::{ByteAddress, WordOffset};
 use port::calls::{Answer, Command, OpenBurst, Refusal};
@@ -24,16 +25,16 @@ fn offset_of<W: Width>(burst: Option<OpenBurst>, address: u32) -> Result<WordOff
 fn command_of<W: Width>(fields: CommandFields, burst: Option<OpenBurst>) -> Result<Command, Refusal>
     ensures { Converted W.Width.wide burst fields result }
 {
-    match fields.flags {
-        0 => Ok(Command::Idle),
-        1 => {
+    match CommandKind::try_from(fields.flags) {
+        Ok(CommandKind::Idle) => Ok(Command::Idle),
+        Ok(CommandKind::Read) => {
             let offset = offset_of::<W>(burst, fields.address)?;
             Ok(Command::Read {
                 offset,
                 count: fields.count,
             })
         }
-        2 => {
+        Ok(CommandKind::Write) => {
             let offset = offset_of::<W>(burst, fields.address)?;
             Ok(Command::Write {
                 offset,
@@ -42,7 +43,7 @@ fn command_of<W: Width>(fields: CommandFields, burst: Option<OpenBurst>) -> Resu
                 word: fields.bits,
             })
         }
-        _ => Err(Refusal::ReadAndWrite),
+        Ok(CommandKind::ReadAndWrite) | Err(_) => Err(Refusal::ReadAndWrite),
     }
 }
 
@@ -50,7 +51,8 @@ fn command_of<W: Width>(fields: CommandFields, burst: Option<OpenBurst>) -> Resu
 fn reads_all_lanes<W: Width>(fields: CommandFields) -> bool
     ensures { result ≡ all_lanes W.Width.wide fields }
 {
-    fields.flags != 1 || fields.mask as u16 == (1 << W::width()) - 1
+    CommandKind::try_from(fields.flags) != Ok(CommandKind::Read)
+        || fields.mask as u16 == (1 << W::width()) - 1
 }
 
 /// Puts a command of a session to a port. A read that does not name all lanes is not put to it.

@@ -7,9 +7,10 @@ ghost use Rattle.files.specs.Sections.{bytes_each, carrier, record_in};
 
 use crate::faults::{Fault, FileFault};
 use crate::reader::Reader;
-use crate::records::{Records, SessionRecord, Stretch, two_bytes};
+use crate::records::{Records, SessionRecord, Stretch};
 use crate::section::Section;
 
+// Each step says that the file stays, since a `&mut self` may change every field.
 impl<'a> Reader<'a> {
     /// A reader at the start of a file.
     pub fn new(file: &'a [u8]) -> Reader<'a>
@@ -36,13 +37,9 @@ impl<'a> Reader<'a> {
               × (self.new.place ≡ self.old.place)
         ] }
     {
-        if self.left() < 2 {
-            return None;
-        }
-        let low = self.file[self.place];
-        let high = self.file[self.place + 1];
+        let bytes = self.file[self.place..].first_chunk()?;
         self.place += 2;
-        Some(two_bytes(low, high))
+        Some(u16::from_le_bytes(*bytes))
     }
 
     /// The next `size` bytes as they stand in the file, if they are all there.
@@ -55,6 +52,7 @@ impl<'a> Reader<'a> {
               × (self.new.place ≡ self.old.place)
         ] }
     {
+        // A range by hand, since `get` does not promise where in memory its bytes lie.
         if self.left() < size {
             return None;
         }
@@ -108,6 +106,7 @@ impl<'a> Reader<'a> {
     }
 
     /// Goes past the records of a section, if they are there and nothing is wrong with them.
+    #[tactic(auto, using(crate::proofs::Walks::records_go))]
     fn section_records(&mut self, section: Section, count: u16) -> Result<(), Fault>
         ensures same { self.new.file ≡ self.old.file }
         ensures judged { elim result [
@@ -116,8 +115,8 @@ impl<'a> Reader<'a> {
           | Err f ↦ records_fault section self.old.file.now self.old.place 1 count ≡ Some f
         ] }
     {
-        for i in 0..count {
-            self.section_record(section, i + 1)?;
+        for number in 1..=count {
+            self.section_record(section, number)?;
         }
         Ok(())
     }
@@ -149,9 +148,9 @@ impl<'a> Reader<'a> {
               × (f ≡ fault_at section count self.now.place Broken)
         ] }
     {
-        match self.left() {
-            0 => Ok(()),
-            _ => Err(section.fault_at(count, self.place, FileFault::Broken)),
+        if self.left() > 0 {
+            return Err(section.fault_at(count, self.place, FileFault::Broken));
         }
+        Ok(())
     }
 }

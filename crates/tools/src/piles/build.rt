@@ -8,6 +8,7 @@ ghost use Rattle.files.specs.Sessions.{InRange};
 use crate::piles::{Places, Played, Stop, Summary};
 use crate::player::{count_taken, play_all};
 use agents::memory::{ReadBurst, ScriptedMemory, Storage};
+use files::kinds::Pile;
 use files::records::PileFields;
 use files::session::{Session, read_session};
 use port::calls::{Answer, Refusal, Reply};
@@ -57,9 +58,9 @@ fn play_pile<'x>(
           ⊎ ((number_of e ≡ 10) × (length answers.old < count_of session.now.commands.bytes.now)))
     ] }
 {
-    if pile.pile != 2 {
+    let Ok(kind) = Pile::try_from(pile.pile) else {
         return Err(Refusal::OutOfRange);
-    }
+    };
     let storage = Storage {
         bytes,
         waits,
@@ -67,9 +68,15 @@ fn play_pile<'x>(
         words,
         bursts,
     };
-    match ScriptedMemory::<W4>::new(storage, pile.burst_limit, pile.pending_limit) {
-        Ok(mut memory) => play_on::<W4, ScriptedMemory<'x, W4>>(&mut memory, session, answers),
-        Err((refusal, _)) => Err(refusal),
+    match kind {
+        Pile::Memory => match ScriptedMemory::<W4>::new(
+            storage,
+            pile.burst_limit,
+            pile.pending_limit,
+        ) {
+            Ok(mut memory) => play_on::<W4, ScriptedMemory<'x, W4>>(&mut memory, session, answers),
+            Err((refusal, _)) => Err(refusal),
+        },
     }
 }
 

@@ -1,0 +1,62 @@
+//! The numbers of a session file that stand for something: the kind of a command and the pile that is built.
+ghost use Rattle.std.specs.Prelude.{◌≡◌};
+ghost use Rattle.files.specs.Kinds.{NamesKind, NamesPile, adapters_each};
+
+use crate::faults::FileFault;
+
+/// What a command asks for, by its flags.
+#[derive(Clone, Copy, PartialEq, Eq, Debug)]
+pub enum CommandKind {
+    Idle = 0,
+    Read = 1,
+    Write = 2,
+    /// No port takes both at once.
+    ReadAndWrite = 3,
+}
+
+impl TryFrom<u8> for CommandKind {
+    type Error = FileFault;
+
+    ghost try_from_gives = { NamesKind };
+
+    fn try_from(flags: u8) -> Result<CommandKind, FileFault> {
+        match flags {
+            0 => Ok(CommandKind::Idle),
+            1 => Ok(CommandKind::Read),
+            2 => Ok(CommandKind::Write),
+            3 => Ok(CommandKind::ReadAndWrite),
+            _ => Err(FileFault::Broken),
+        }
+    }
+}
+
+/// A pile that is built, by its number in a session file.
+#[derive(Clone, Copy, PartialEq, Eq, Debug)]
+pub enum Pile {
+    /// The scripted memory alone.
+    Memory = 2,
+}
+
+impl TryFrom<u8> for Pile {
+    type Error = FileFault;
+
+    ghost try_from_gives = { NamesPile };
+
+    fn try_from(number: u8) -> Result<Pile, FileFault> {
+        match number {
+            2 => Ok(Pile::Memory),
+            _ => Err(FileFault::OutOfRange),
+        }
+    }
+}
+
+impl Pile {
+    /// The number of adapters over the memory.
+    pub fn adapters(self) -> u8
+        ensures { result ≡ adapters_each self }
+    {
+        match self {
+            Pile::Memory => 0,
+        }
+    }
+}
