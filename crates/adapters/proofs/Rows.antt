@@ -9,9 +9,6 @@ row_fits r f v lt =
     let s : (r + 1) * v ≡ r * v + v = add-mul r 1 v ∙ ap (λ k. r * v + k) (one-mul v) in
     omega arith
 
-pub eight_rows : (a b : ℕ) → a + b ≤ 8 → 8 * b + 8 * a ≤ 64
-eight_rows a b h = omega arith
-
 -- a part above the parts that have come still fits their lanes
 pub value_fits : (value x w g : ℕ) → value < 2 ^ (8 * (w * g)) → x < 2 ^ (8 * w) → value + x * 2 ^ (8 * (w * g)) < 2 ^ (8 * (w * (g + 1)))
 value_fits value x w g small part =

@@ -1,21 +1,13 @@
 -- The host words that are joined of the words below.
-use Rattle.std.proofs.Common.{◌≡◌, ℕ, zero, suc, ◌+◌, ◌-◌, ◌*◌, ◌^◌, ◌<◌, ◌≤◌, Bool, true, false, cond, ◌⊎◌, List, [], ◌∷◌, ◌++◌, length, Some, None, sym, refl, ap, ◌∙◌, inl, inr, mul_comm, add-mul, one-mul, zero-mul, one-add, arith}
+use Rattle.std.proofs.Common.{◌≡◌, ℕ, zero, suc, ◌+◌, ◌-◌, ◌*◌, ◌^◌, ◌<◌, ◌≤◌, true, false, ◌⊎◌, List, [], ◌∷◌, ◌++◌, length, sym, refl, ap, ◌∙◌, inl, inr, mul_comm, add-mul, one-mul, zero-mul, one-add, arith}
 use Rattle.std.proofs.lemmas.Bool.{cases_Bool, le-ltb, lt-ltb, ltb-false, ltb-true}
 use Rattle.port.specs.Lanes.{joined_bytes, word_at, words_at}
 use Rattle.port.proofs.Bytes.{joined_inside, joined_split, length_words_at, words_append}
 use Rattle.adapters.specs.Cuts.{lanes_up, offset_below}
-use Rattle.adapters.specs.Owed.{counted, host_words, lanes_of, more_to_come, value_with, whole_with, word_up}
+use Rattle.adapters.specs.Owed.{counted, host_words, lanes_of, more_to_come, value_with}
 use Rattle.adapters.specs.declared.cut.Cut.{Cut}
 use Rattle.adapters.specs.declared.owed.Collected.{Collected}
 use Rattle.adapters.proofs.Places.{lanes_within, offset_whole, same_address}
-
--- where the last part has come, the joined parts hold the host word
-whole_by : (t : Bool) (j x : ℕ) (up : ℕ → ℕ) → Some j ≡ cond t None (Some x) → Some (up j) ≡ cond t None (Some (up x))
-whole_by true j x up e = cc
-whole_by false j x up e = cc
-
-pub word_whole : (c : Cut) (v h : ℕ) (g : Collected) (x j : ℕ) → Some j ≡ whole_with c g x → Some (lanes_of c v h j) ≡ word_up c v h g (Some x)
-word_whole c v h g x j e = whole_by (more_to_come c g) j (value_with c g x) (lanes_of c v h) e
 
 -- The words below as host words ------------------------------------------------------
 

@@ -24,20 +24,6 @@ placed w (Some b) f even = refl
 host_none : (w : ℕ) (b : Option OpenBurst) (f : CommandFields) → f.flags ≤ 2 → (b ≡ None → aligned w f.address ≡ true) → host_rule w b f ≡ None
 host_none w b f small even = rw (lt-leb 3 f.flags (omega arith), placed w b f even)
 
-pub converts_read : (w : ℕ) (b : Option OpenBurst) (f : CommandFields) (o : WordOffset) → f.flags ≡ 1 → Placed w b f.address (Ok o) → Converted w b f (Ok (Read o f.count))
-converts_read w b f o one at =
-    let offset : o ≡ record { 0 = offset_in w f.address } = ap (λ (a : ℕ). record { 0 = a }) at.0 in (
-      host_none w b f (omega arith) at.1,
-      rw (ne_eqb f.flags 0 (omega arith), eq-eqb f.flags 1 one) (ap (λ (q : WordOffset). Read q f.count) offset),
-    )
-
-pub converts_write : (w : ℕ) (b : Option OpenBurst) (f : CommandFields) (o : WordOffset) → f.flags ≡ 2 → Placed w b f.address (Ok o) → Converted w b f (Ok (Write o f.count f.mask f.bits))
-converts_write w b f o two at =
-    let offset : o ≡ record { 0 = offset_in w f.address } = ap (λ (a : ℕ). record { 0 = a }) at.0 in (
-      host_none w b f (omega arith) at.1,
-      rw (ne_eqb f.flags 0 (omega arith), ne_eqb f.flags 1 (omega arith)) (ap (λ (q : WordOffset). Write q f.count f.mask f.bits) offset),
-    )
-
 -- what is refused before the port is looked at
 pub plays_host : (n : Numbers) (σ : State) (f : CommandFields) (r : Refusal) (w : ℕ) → n.width ≡ w → host_rule w σ.burst f ≡ Some (number_of r) → Played n σ f (Refused r) σ
 plays_host n σ f r w e broke =
@@ -76,10 +62,6 @@ plays_lanes n σ f c w e ok fine some =
     let here : refusal_in n σ (command_in n.width f) ≡ None = subst (λ (d : Command). refusal_in n σ d ≡ None) same fine in
     let lanes : all_lanes n.width f ≡ false = subst (λ v. all_lanes v f ≡ false) (sym e) some in
     (rw (free, here, lanes), refl)
-
--- the plain record answers as the state
-pub burst_told : (n : Numbers) (σ : State) (p : PortRecord) → p ≡ tally n σ → p.burst ≡ σ.burst
-burst_told n σ p e = ap (λ (q : PortRecord). q.burst) e
 
 pub refusal_told : (n : Numbers) (σ : State) (p : PortRecord) (c : Command) (r : Option ℕ) → p ≡ tally n σ → refusal_by p.numbers p.burst p.held c ≡ r → refusal_in n σ c ≡ r
 refusal_told n σ p c r e h = subst (λ (q : PortRecord). refusal_by q.numbers q.burst q.held c ≡ r) e h

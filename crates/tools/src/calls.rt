@@ -12,7 +12,7 @@ use port::width::Width;
 /// The offset of an address. In an open burst a beat's address is not looked at, and one that is no multiple of the
 /// width stands for offset 0.
 fn offset_of<W: Width>(burst: Option<OpenBurst>, address: u32) -> Result<WordOffset, Refusal>
-    ensures { Placed W.Width.wide burst address result }
+    ensures { Placed W.BYTES burst address result }
 {
     match (W::divide(ByteAddress(address)), burst) {
         (Some(offset), _) => Ok(offset),
@@ -23,7 +23,7 @@ fn offset_of<W: Width>(burst: Option<OpenBurst>, address: u32) -> Result<WordOff
 
 /// The command that a record carries, for a port with this write burst open.
 fn command_of<W: Width>(fields: CommandFields, burst: Option<OpenBurst>) -> Result<Command, Refusal>
-    ensures { Converted W.Width.wide burst fields result }
+    ensures { Converted W.BYTES burst fields result }
 {
     match CommandKind::try_from(fields.flags) {
         Ok(CommandKind::Idle) => Ok(Command::Idle),
@@ -49,29 +49,22 @@ fn command_of<W: Width>(fields: CommandFields, burst: Option<OpenBurst>) -> Resu
 
 /// Whether a record is no read, or a read of all lanes.
 fn reads_all_lanes<W: Width>(fields: CommandFields) -> bool
-    ensures { result ≡ all_lanes W.Width.wide fields }
+    ensures { result ≡ all_lanes W.BYTES fields }
 {
     CommandKind::try_from(fields.flags) != Ok(CommandKind::Read)
-        || fields.mask as u16 == (1 << W::width()) - 1
+        || fields.mask as u16 == (1 << W::BYTES) - 1
 }
 
 /// Puts a command of a session to a port. A read that does not name all lanes is not put to it.
-pub(crate) fn play_one<W: Width, P: Port>(port: &mut P, fields: CommandFields) -> Answer
-    requires { (P.Port.sound port.old) × (P.Port.wide ≡ W.Width.wide) }
-    ensures sound { P.Port.sound port.new }
-    ensures fixed { P.Port.fixed port.new ≡ P.Port.fixed port.old }
-    ensures plays { Played (P.Port.fixed port.old) (P.Port.state port.old) fields result (P.Port.state port.new) }
+pub(crate) fn play_one<P: Port>(port: &mut P, fields: CommandFields) -> Answer
+    ensures fixed { P.fixed port.new ≡ P.fixed port.old }
+    ensures plays { Played (P.fixed port.old) (P.state port.old) fields result (P.state port.new) }
 {
     let status = port.status();
-    let command = match command_of::<W>(fields, status.burst) {
-        Ok(command) => command,
-        Err(refusal) => return Answer::Refused(refusal),
-    };
-    if reads_all_lanes::<W>(fields) {
+    let command = command_of::<P::Width>(fields, status.burst)?;
+    if reads_all_lanes::<P::Width>(fields) {
         return port.clock(command);
     }
-    match status.refusal(command) {
-        Some(refusal) => Answer::Refused(refusal),
-        None => Answer::Refused(Refusal::Lanes),
-    }
+    status.check(command)?;
+    Err(Refusal::Lanes)
 }

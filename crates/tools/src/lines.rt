@@ -1,5 +1,5 @@
 //! The lines that the player prints. What is printed is tested, and not proved.
-use port::calls::{Answer, Reply};
+use port::calls::Answer;
 use port::numbers::Numbers;
 use std::fmt;
 
@@ -35,32 +35,17 @@ pub struct CallLine {
     pub width: u8,
 }
 
-/// How a clocked call was answered, in one word.
-fn reply_name(reply: Reply) -> &'static str {
-    match reply {
-        Reply::Idle => "idle",
-        Reply::Wait => "wait",
-        Reply::Take => "take",
-    }
-}
-
 impl fmt::Display for CallLine {
     fn fmt<W: fmt::Write>(&self, f: &mut fmt::Formatter<W>) -> fmt::Result {
         let index = self.index;
         let digits = 2 * self.width as usize;
         match self.answer {
-            Answer::Refused(refusal) => {
+            Err(refusal) => {
                 let number = refusal.number();
                 write!(f, "{index} no{number} -")
             }
-            Answer::Clocked(reply, None) => {
-                let name = reply_name(reply);
-                write!(f, "{index} {name} -")
-            }
-            Answer::Clocked(reply, Some(word)) => {
-                let name = reply_name(reply);
-                write!(f, "{index} {name} {word:0digits$x}")
-            }
+            Ok((reply, None)) => write!(f, "{index} {reply} -"),
+            Ok((reply, Some(word))) => write!(f, "{index} {reply} {word:0digits$x}"),
         }
     }
 }

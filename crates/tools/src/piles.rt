@@ -1,6 +1,6 @@
 //! The piles of a session: what the player builds, and the commands played on it.
 ghost use Rattle.std.specs.Prelude.{◌≡◌};
-ghost use Rattle.tools.specs.declared.piles.Stop.TheVariants.{NoMemory};
+ghost use Rattle.tools.specs.declared.piles.Stop.TheVariants.{Fault, NoMemory};
 
 use agents::memory::ReadBurst;
 use files::faults::Fault;
@@ -47,6 +47,14 @@ pub enum Stop {
     Fault(Fault),
     /// There is no memory for it.
     NoMemory,
+}
+
+impl From<Fault> for Stop {
+    ghost from_gives = { λ f s. s ≡ Fault f };
+
+    fn from(fault: Fault) -> Stop {
+        Stop::Fault(fault)
+    }
 }
 
 impl From<AllocError> for Stop {

@@ -9,24 +9,21 @@ use files::records::command_fields;
 use files::session::Session;
 use port::calls::{Answer, Refusal, Reply};
 use port::ports::Port;
-use port::width::Width;
 
 /// Puts the commands of a session to the port, and stores an answer for each. Refused where there are fewer
 /// places than commands.
-pub(crate) fn play_all<W: Width, P: Port>(
+pub(crate) fn play_all<P: Port>(
     port: &mut P,
     session: &Session<'_>,
     answers: &mut [Answer],
 ) -> Result<(), Refusal>
-    requires { (P.Port.sound port.old) × (P.Port.wide ≡ W.Width.wide) }
     ensures ran { elim result [
       | Ok _ ↦ (length session.now.commands.bytes.now / 16 ≤ length answers.old)
-          × SessionRan (P.Port.fixed port.old) (P.Port.state port.old) (commands_in session.now.commands.bytes.now (length session.now.commands.bytes.now / 16)) answers.new (P.Port.state port.new)
+          × SessionRan (P.fixed port.old) (P.state port.old) (commands_in session.now.commands.bytes.now (length session.now.commands.bytes.now / 16)) answers.new (P.state port.new)
           × (drop (length session.now.commands.bytes.now / 16) answers.new ≡ drop (length session.now.commands.bytes.now / 16) answers.old)
       | Err e ↦ (number_of e ≡ 10) × (length answers.old < length session.now.commands.bytes.now / 16) × (port.new ≡ port.old) × (answers.new ≡ answers.old)
     ] }
-    ensures sound { P.Port.sound port.new }
-    ensures fixed { P.Port.fixed port.new ≡ P.Port.fixed port.old }
+    ensures fixed { P.fixed port.new ≡ P.fixed port.old }
 {
     let count = session.command_count();
     if answers.len() < count {
@@ -39,7 +36,7 @@ pub(crate) fn play_all<W: Width, P: Port>(
         let Some(fields) = command_fields(found.stretch().bytes) else {
             unreachable()
         };
-        answers[i] = play_one::<W, P>(port, fields);
+        answers[i] = play_one(port, fields);
     }
     Ok(())
 }
@@ -48,21 +45,12 @@ pub(crate) fn play_all<W: Width, P: Port>(
 fn is_taken(answer: &Answer) -> bool
     ensures { result ≡ was_taken answer.now }
 {
-    match answer {
-        Answer::Clocked(Reply::Take, _) => true,
-        _ => false,
-    }
+    matches!(answer, Ok((Reply::Take, _)))
 }
 
 /// How many commands were taken, each beat counted.
 pub(crate) fn count_taken(answers: &[Answer]) -> usize
     ensures { result ≡ takes_in answers.now }
 {
-    let mut count = 0;
-    for answer in answers {
-        if is_taken(answer) {
-            count += 1;
-        }
-    }
-    count
+    answers.iter().filter(|answer| is_taken(answer)).count()
 }

@@ -12,25 +12,25 @@ use files::kinds::Pile;
 use files::records::PileFields;
 use files::session::{Session, read_session};
 use port::calls::{Answer, Refusal, Reply};
+use port::numbers::Limits;
 use port::ports::Port;
-use port::width::{W4, Width};
+use port::width::W4;
 use std::alloc::{AllocError, Global};
 
 /// Plays the commands of a session on a port.
-fn play_on<W: Width, P: Port>(
+fn play_on<P: Port>(
     port: &mut P,
     session: &Session<'_>,
     answers: &mut [Answer],
 ) -> Result<Summary, Refusal>
-    requires { (P.Port.sound port.old) × (P.Port.wide ≡ W.Width.wide) }
     ensures { elim result [
-      | Ok end ↦ ((image : List ℕ) → P.Port.state port.old ≡ reset image → Plays (P.Port.fixed port.old) image session.now.commands.bytes.now answers.new end)
+      | Ok end ↦ ((image : List ℕ) → P.state port.old ≡ reset image → Plays (P.fixed port.old) image session.now.commands.bytes.now answers.new end)
           × (drop (count_of session.now.commands.bytes.now) answers.new ≡ drop (count_of session.now.commands.bytes.now) answers.old)
       | Err e ↦ (number_of e ≡ 10) × (length answers.old < count_of session.now.commands.bytes.now) × (answers.new ≡ answers.old)
     ] }
 {
     let top = port.status().numbers;
-    play_all::<W, P>(port, session, answers)?;
+    play_all(port, session, answers)?;
     let taken = count_taken(&answers[0..session.command_count()]);
     Ok(Summary {
         top,
@@ -39,42 +39,31 @@ fn play_on<W: Width, P: Port>(
     })
 }
 
-/// Builds the pile of a session over storage, and plays its commands. (A `Storage` by value could not be handed on from here.)
-fn play_pile<'x>(
+/// Builds the pile of a session over storage, and plays its commands.
+fn play_pile(
     pile: PileFields,
-    bytes: &'x mut [u8],
-    waits: &'x [u8],
-    gaps: &'x [u8],
-    words: &'x mut [u64],
-    bursts: &'x mut [ReadBurst],
+    storage: Storage<'_>,
     session: &Session<'_>,
     answers: &mut [Answer],
 ) -> Result<Summary, Refusal>
     ensures { elim result [
-      | Ok end ↦ Plays (numbers_over pile (length bytes.old) waits.now gaps.now) bytes.old session.now.commands.bytes.now answers.new end
+      | Ok end ↦ Plays (numbers_over pile (length storage.entry.bytes.now) storage.entry.waits.now storage.entry.gaps.now) storage.entry.bytes.now session.now.commands.bytes.now answers.new end
           × (drop (count_of session.now.commands.bytes.now) answers.new ≡ drop (count_of session.now.commands.bytes.now) answers.old)
       | Err e ↦ (answers.new ≡ answers.old)
-          × (((number_of e ≡ 2) × (Fitting pile (length bytes.old) (length waits.now) (length gaps.now) (length words.old) (length bursts.old) → ⊥))
+          × (((number_of e ≡ 2) × (Fitting pile (length storage.entry.bytes.now) (length storage.entry.waits.now) (length storage.entry.gaps.now) (length storage.entry.words.now) (length storage.entry.bursts.now) → ⊥))
           ⊎ ((number_of e ≡ 10) × (length answers.old < count_of session.now.commands.bytes.now)))
     ] }
 {
     let Ok(kind) = Pile::try_from(pile.pile) else {
         return Err(Refusal::OutOfRange);
     };
-    let storage = Storage {
-        bytes,
-        waits,
-        gaps,
-        words,
-        bursts,
+    let limits = Limits {
+        burst: pile.burst_limit,
+        pending: pile.pending_limit,
     };
     match kind {
-        Pile::Memory => match ScriptedMemory::<W4>::new(
-            storage,
-            pile.burst_limit,
-            pile.pending_limit,
-        ) {
-            Ok(mut memory) => play_on::<W4, ScriptedMemory<'x, W4>>(&mut memory, session, answers),
+        Pile::Memory => match ScriptedMemory::<W4>::new(storage, limits) {
+            Ok(mut memory) => play_on(&mut memory, session, answers),
             Err((refusal, _)) => Err(refusal),
         },
     }
@@ -94,7 +83,7 @@ fn places_for(heap: Global, session: &Session<'_>) -> Result<Places, AllocError>
         bytes: session.memory.bytes.to_vec(heap)?,
         words: vec![in heap; 0u64; burst_limit as usize * pending]?,
         bursts: vec![in heap; ReadBurst { left: 0 }; pending]?,
-        answers: vec![in heap; Answer::Clocked(Reply::Idle, None); session.command_count()]?,
+        answers: vec![in heap; Ok((Reply::Idle, None)); session.command_count()]?,
     })
 }
 
@@ -115,16 +104,14 @@ fn play_session(heap: Global, session: &Session<'_>) -> Result<Played, AllocErro
         gaps,
         ..
     } = *session;
-    match play_pile(
-        pile,
-        &mut bytes,
-        waits.bytes,
-        gaps.bytes,
-        &mut words,
-        &mut bursts,
-        session,
-        &mut answers,
-    ) {
+    let storage = Storage {
+        bytes: &mut bytes,
+        waits: waits.bytes,
+        gaps: gaps.bytes,
+        words: &mut words,
+        bursts: &mut bursts,
+    };
+    match play_pile(pile, storage, session, &mut answers) {
         Ok(summary) => Ok(Played {
             pile: pile.pile,
             answers,
@@ -138,8 +125,6 @@ fn play_session(heap: Global, session: &Session<'_>) -> Result<Played, AllocErro
 pub fn play_file(heap: Global, file: &[u8]) -> Result<Played, Stop>
     ensures { FilePlayed file.entry result }
 {
-    match read_session(file) {
-        Ok(session) => Ok(play_session(heap, &session)?),
-        Err(fault) => Err(Stop::Fault(fault)),
-    }
+    let session = read_session(file)?;
+    Ok(play_session(heap, &session)?)
 }
