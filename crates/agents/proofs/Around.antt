@@ -27,14 +27,17 @@ put_high s h n x le ge lt =
     let t = take_more_set (drop h s ++ take h s) n x m in
     cc
 
-pub put_end : {X : Type 0} (s : List X) (h n : ℕ) (x : X) → h ≤ length s → n < length s → around (set s (end_of (length s) h n) x) h (n + 1) ≡ around s h n ++ (x ∷ [])
-put_end s h n x le lt =
+at_end : {X : Type 0} (s : List X) (h n : ℕ) (x : X) → h ≤ length s → n < length s → around (set s (end_of (length s) h n) x) h (n + 1) ≡ around s h n ++ (x ∷ [])
+at_end s h n x le lt =
     (λ (b : Bool) (e : ltb n (length s - h) ≡ b).
     elim b as (λ v. ltb n (length s - h) ≡ v → around (set s (cond v (h + n) (n - (length s - h))) x) h (n + 1) ≡ around s h n ++ (x ∷ [])) [
       | true ↦ λ t. put_low s h n x le (ltb-true _ _ t)
       | false ↦ λ f. put_high s h n x le (ltb-false _ _ f) lt
     ] e)
     (ltb n (length s - h)) refl
+
+pub put_end : {X : Type 0} (s : List X) (h n p : ℕ) (x : X) → p ≡ end_of (length s) h n → h ≤ length s → n < length s → around (set s p x) h (n + 1) ≡ around s h n ++ (x ∷ [])
+put_end s h n p x e le lt = rw e (at_end s h n x le lt)
 
 pub end_below : (size h n : ℕ) → h ≤ size → n < size → end_of size h n < size
 end_below size h n le lt = grind arith
@@ -90,10 +93,9 @@ after_set s p n x lt few =
     let u = take-append-le n (drop (p + 1) s ++ take p s) (get_or s p x ∷ []) le in
     cc
 
-pub set_start : {X : Type 0} (s : List X) (h n : ℕ) (x : X) → h ≤ length s → 0 < n → n ≤ length s → around (set s (start_of (length s) h) x) h n ≡ with_first x (around s h n)
-set_start s h n x le pos fits =
-    let p = start_of (length s) h in
-    let lt = start_below (length s) h (omega arith) in
+pub set_start : {X : Type 0} (s : List X) (h n p : ℕ) (x : X) → p ≡ start_of (length s) h → h ≤ length s → 0 < n → n ≤ length s → around (set s p x) h n ≡ with_first x (around s h n)
+set_start s h n p x here le pos fits =
+    let lt : p < length s = omega (arith, start_below (length s) h (omega arith)) in
     let l = length-set s p x in
     let e : around (set s p x) h n ≡ get_or (set s p x) (start_of (length (set s p x)) h) x ∷ around (set s p x) (start_of (length (set s p x)) h + 1) (n - 1) =
     take_start (set s p x) h n x (omega arith) pos (omega arith) in

@@ -1,17 +1,20 @@
 -- Laws of the greatest value of a list.
-use Rattle.std.proofs.Common.{◌≡◌, ℕ, zero, suc, ◌+◌, ◌<◌, ◌≤◌, max, List, [], ◌∷◌, ◌++◌, length, get_or, take, ap, arith}
-use Rattle.std.proofs.lemmas.List.{take_more}
+use Rattle.std.proofs.Common.{◌≡◌, ℕ, zero, suc, ◌≤◌, max, List, [], ◌∷◌, get_or, fold, map, unwrap_or, sym, ap, ◌∙◌, arith}
+use Rattle.std.proofs.lemmas.List.Folds.{max_of_map}
+use Rattle.std.proofs.lemmas.List.{map-id}
+use Rattle.std.specs.List.{reduce}
+use Rattle.std.specs.Ordering.{nat_cmp, max_by_ordering}
 use Rattle.agents.specs.Scripts.{greatest_of}
 
-greatest_push : (xs : List ℕ) (x : ℕ) → greatest_of (xs ++ (x ∷ [])) ≡ max (greatest_of xs) x
-greatest_push [] x = omega arith
-greatest_push (y ∷ ys) x = let e = greatest_push ys x in omega arith
+greatest_fold : (x : ℕ) (xs : List ℕ) → fold (λ a y. max a y) x xs ≡ max x (greatest_of xs)
+greatest_fold x [] = omega arith
+greatest_fold x (y ∷ ys) = let e = greatest_fold (max x y) ys in omega arith
 
-pub greatest_more : (xs : List ℕ) (i most : ℕ) → i < length xs → most ≡ greatest_of (take i xs) → max most (get_or xs i 0) ≡ greatest_of (take (i + 1) xs)
-greatest_more xs i most lt e =
-    let p = greatest_push (take i xs) (get_or xs i 0) in
-    let t = ap greatest_of (take_more xs i 0 lt) in
-    omega (arith, p, t, e)
+-- the greatest by `max`, or 0 of none
+pub greatest_max : (xs : List ℕ) → unwrap_or (reduce (λ p z. max_by_ordering (nat_cmp p z) p z) xs) 0 ≡ greatest_of xs
+greatest_max xs =
+    let e = rw (map-id xs) at (max_of_map (λ (x : ℕ). x) xs) in
+    e ∙ (greatest_fold 0 xs ∙ omega arith)
 
 -- every value is at most the greatest
 pub at_most_greatest : (xs : List ℕ) (i : ℕ) → get_or xs i 0 ≤ greatest_of xs

@@ -1,40 +1,57 @@
 -- Laws of words joined from bytes, and of lanes stored, step by step.
-use Rattle.std.proofs.Common.{◌≡◌, ℕ, zero, suc, ◌+◌, ◌-◌, ◌*◌, ◌^◌, ◌<◌, ◌≤◌, true, false, List, [], ◌∷◌, ◌++◌, set, refl, ap, ◌∙◌, add-one, arith, pow-add}
-use native.Mathlib.Nat.{pow-le-pow_right}
-use Rattle.port.specs.Lanes.{enabled, joined_bytes, lane, lanes_stored, word_at, words_at}
+use Rattle.std.proofs.Common.{◌≡◌, ℕ, zero, suc, ◌+◌, ◌-◌, ◌<◌, ◌≤◌, true, false, List, [], ◌∷◌, ◌++◌, length, get_or, set, take, drop, replicate, refl, ap, ◌∙◌, append_assoc, add-zero, add-one, arith, length-drop, length-take-le}
+use Rattle.std.proofs.lemmas.List.{get_or-drop, get_or-take}
+use Rattle.std.specs.Int.{from_le_bytes, to_le_bytes, w64}
+use Rattle.port.proofs.Bytes.{words_append}
+use Rattle.port.specs.Lanes.{byte_in, enabled, joined_bytes, lane, lanes_stored, word_at, words_at}
 
-pub join_none : (byte : ℕ → ℕ) (start n : ℕ) → 0 ≡ joined_bytes byte start (n - n)
+-- the lanes of a word, the lowest first, filled up to eight bytes
+pub joined_eight : (xs : List ℕ) → length xs ≤ 8 → from_le_bytes w64 (xs ++ drop (length xs) (replicate 8 0)) ≡ joined_bytes (byte_in xs) 0 (length xs)
 unfolding joined_bytes
-join_none byte start n = let z : n - n ≡ 0 = omega arith in rw z
+joined_eight [] le = omega arith
+joined_eight (a ∷ []) le = omega arith
+joined_eight (a ∷ b ∷ []) le = omega arith
+joined_eight (a ∷ b ∷ c ∷ []) le = omega arith
+joined_eight (a ∷ b ∷ c ∷ d ∷ []) le = omega arith
+joined_eight (a ∷ b ∷ c ∷ d ∷ e ∷ []) le = omega arith
+joined_eight (a ∷ b ∷ c ∷ d ∷ e ∷ f ∷ []) le = omega arith
+joined_eight (a ∷ b ∷ c ∷ d ∷ e ∷ f ∷ g ∷ []) le = omega arith
+joined_eight (a ∷ b ∷ c ∷ d ∷ e ∷ f ∷ g ∷ h ∷ []) le = omega arith
+joined_eight (a ∷ b ∷ c ∷ d ∷ e ∷ f ∷ g ∷ h ∷ i ∷ xs) le = absurd (omega arith)
 
-joined_suc : (byte : ℕ → ℕ) (start k : ℕ) → joined_bytes byte start (suc k) ≡ byte start + 256 * joined_bytes byte (start + 1) k
+pub lane_at : (word i : ℕ) → i < 8 → get_or (to_le_bytes w64 word) i 0 ≡ lane word i
+lane_at word zero lt = omega arith
+lane_at word (suc zero) lt = refl
+lane_at word (suc (suc zero)) lt = refl
+lane_at word (suc (suc (suc zero))) lt = refl
+lane_at word (suc (suc (suc (suc zero)))) lt = refl
+lane_at word (suc (suc (suc (suc (suc zero))))) lt = refl
+lane_at word (suc (suc (suc (suc (suc (suc zero)))))) lt = refl
+lane_at word (suc (suc (suc (suc (suc (suc (suc zero))))))) lt = refl
+lane_at word (suc (suc (suc (suc (suc (suc (suc (suc i)))))))) lt = absurd (omega arith)
+
+-- words are joined alike from bytes that are alike
+pub joined_alike : (f g : ℕ → ℕ) (a b n : ℕ) → ((i : ℕ) → i < n → f (a + i) ≡ g (b + i)) → joined_bytes f a n ≡ joined_bytes g b n
 unfolding joined_bytes
-joined_suc byte start k = refl
+joined_alike f g a b zero same = refl
+joined_alike f g a b (suc n) same =
+    let h : f a ≡ g b = simp add-zero at (same 0 (omega arith)) in
+    let later = joined_alike f g (a + 1) (b + 1) n (λ i lt.
+    let x : a + 1 + i ≡ a + (i + 1) = omega arith in
+    let y : b + (i + 1) ≡ b + 1 + i = omega arith in
+    ap f x ∙ (same (i + 1) (omega arith) ∙ ap g y)) in
+    cc
 
-pub join_step : (byte : ℕ → ℕ) (start n i word : ℕ) → 0 < i → i ≤ n → word ≡ joined_bytes byte (start + i) (n - i) →
-    word * 256 + byte (start + (i - 1)) ≡ joined_bytes byte (start + (i - 1)) (n - (i - 1))
-join_step byte start n i word pos le e =
-    let k : n - (i - 1) ≡ suc (n - i) = omega arith in
-    let s : (start + (i - 1)) + 1 ≡ start + i = omega arith in
-    let j = joined_suc byte (start + (i - 1)) (n - i) in
-    let a = ap (λ t. joined_bytes byte t (n - i)) s in
-    let b = ap (λ t. joined_bytes byte (start + (i - 1)) t) k in
-    omega (arith, e, j, a, b)
-
-pub small_none : (n : ℕ) → 0 < 2 ^ (8 * (n - n))
-small_none n = let z : 8 * (n - n) ≡ 0 = omega arith in rw z (omega arith)
-
-pub small_step : (n i word b : ℕ) → 0 < i → i ≤ n → b < 256 → word < 2 ^ (8 * (n - i)) → word * 256 + b < 2 ^ (8 * (n - (i - 1)))
-small_step n i word b pos le byte small =
-    let k : 8 * (n - (i - 1)) ≡ 8 * (n - i) + 8 = omega arith in
-    let p : 2 ^ (8 * (n - (i - 1))) ≡ 2 ^ (8 * (n - i)) * 256 = ap (λ t. 2 ^ t) k ∙ pow-add 2 (8 * (n - i)) 8 in
-    omega (arith, p)
-
-pub small_fits : (n i word : ℕ) → n ≤ 8 → 0 < i → word < 2 ^ (8 * (n - i)) → word < 72057594037927936
-small_fits n i word few pos small =
-    let le : 8 * (n - i) ≤ 56 = omega arith in
-    let m : 2 ^ (8 * (n - i)) ≤ 2 ^ 56 = pow-le-pow_right (omega arith) le in
-    omega (arith, m)
+-- the word of the bytes of a memory from a to e
+pub joined_part : (memory : List ℕ) (a e : ℕ) → a ≤ e → e ≤ length memory →
+    joined_bytes (byte_in (take (e - a) (drop a memory))) 0 (length (take (e - a) (drop a memory))) ≡ joined_bytes (byte_in memory) a (e - a)
+joined_part memory a e up le =
+    let part = take (e - a) (drop a memory) in
+    let long : length part ≡ e - a = length-take-le (e - a) (drop a memory) (omega (arith, length-drop a memory)) in
+    let same = joined_alike (byte_in part) (byte_in memory) 0 a (e - a) (λ i lt.
+    let z : 0 + i ≡ i = omega arith in
+    ap (byte_in part) z ∙ (get_or-take (e - a) (drop a memory) i 0 lt ∙ get_or-drop a memory i 0)) in
+    ap (joined_bytes (byte_in part) 0) long ∙ same
 
 pub store_yes : (start mask word i : ℕ) (memory was : List ℕ) → enabled mask i ≡ true → was ≡ lanes_stored start mask word i memory →
     set was (start + i) (lane word i) ≡ lanes_stored start mask word (i + 1) memory
@@ -47,14 +64,14 @@ pub store_no : (start mask word i : ℕ) (memory was : List ℕ) → enabled mas
 unfolding lanes_stored
 store_no start mask word i memory was off e = rw (add-one i) (rw off e)
 
-push_suc : (w : ℕ) (byte : ℕ → ℕ) (offset n : ℕ) → words_at w byte offset (suc n) ≡ words_at w byte offset n ++ (word_at w byte (offset + n) ∷ [])
+-- with the word at p, the words from o on are owed up to p + 1
+pub owed_more : (w : ℕ) (byte : ℕ → ℕ) (o p : ℕ) (was owed : List ℕ) → o ≤ p → owed ≡ was ++ words_at w byte o (p - o) →
+    owed ++ (word_at w byte p ∷ []) ≡ was ++ words_at w byte o (p + 1 - o)
 unfolding words_at
-push_suc w byte offset zero = let z : offset ≡ offset + 0 = omega arith in ap (λ o. word_at w byte o ∷ []) z
-push_suc w byte offset (suc n) =
-    let s : (offset + 1) + n ≡ offset + suc n = omega arith in
-    let e = push_suc w byte (offset + 1) n in
-    ap (λ later. word_at w byte offset ∷ later) (e ∙ ap (λ o. words_at w byte (offset + 1) n ++ (word_at w byte o ∷ [])) s)
-
--- one word more at the end
-pub words_push : (w : ℕ) (byte : ℕ → ℕ) (offset n : ℕ) → words_at w byte offset (n + 1) ≡ words_at w byte offset n ++ (word_at w byte (offset + n) ∷ [])
-words_push w byte offset n = rw (add-one n) (push_suc w byte offset n)
+owed_more w byte o p was owed le e =
+    let long : p + 1 - o ≡ p - o + 1 = omega arith in
+    let here : o + (p - o) ≡ p = omega arith in
+    let all = words_append w byte o (p - o) 1 in
+    let asc = append_assoc was (words_at w byte o (p - o)) (word_at w byte p ∷ []) in
+    let last : words_at w byte p 1 ≡ word_at w byte p ∷ [] = refl in
+    cc

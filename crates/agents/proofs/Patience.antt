@@ -2,11 +2,13 @@
 use Rattle.std.proofs.Common.{◌≡◌, ℕ, ◌+◌, ◌-◌, ◌*◌, ◌<◌, ◌≤◌, true, ◌||◌, ltb, leb, ◌⊎◌, List, [], ◌∷◌, length, Some, None, sym, refl, ap, ◌∙◌, subst, inl, inr, ⊎_elim, mul-le-mul_right, mul_comm, add-mul, add-one, arith}
 use Rattle.std.proofs.lemmas.List.{length-append}
 use Rattle.std.proofs.lemmas.Bool.{cond_both, cond-true, cond-false, leb-true, leb-false, ltb-true, lt-leb, le-leb, or_cases, or_parts, cases_lt}
-use Rattle.agents.specs.Timing.{first_due, word_back, bursts_full, reply_to, oldest, calls_due, Patient}
-use Rattle.port.proofs.Tally.{one_came_below}
+use Rattle.agents.specs.Timing.{first_due, word_back, bursts_full, reply_to, Patient}
+use Rattle.port.proofs.Tally.{one_came_below, total_below}
+use Rattle.port.proofs.Waiting.{due_below, due_falls, due_none}
 use Rattle.port.specs.Legal.{Legal, ReadsWithin, total}
 use Rattle.port.specs.Machine.{Answers, First, acted, given, one_came, silence_after}
 use Rattle.port.specs.State.{State, Within}
+use Rattle.port.specs.Waiting.{calls_due}
 use Rattle.port.specs.declared.calls.Command.{Command}
 use Rattle.port.specs.declared.calls.Command.TheVariants.{Idle, Read, Write}
 use Rattle.port.specs.declared.calls.Reply.{Reply}
@@ -23,53 +25,7 @@ first_is_due (x ∷ later) s g = cond_both (leb g s) (Some x) None (λ o. First 
 pub due_first : (σ : State) (g : ℕ) → First (word_back σ g) σ.owed
 due_first σ g = first_is_due σ.owed σ.silence g
 
--- How many calls are left until a read burst ends ----------------------------------
-
--- a word came
-due_came : (most l s limit : ℕ) (reads : List ℕ) → 1 ≤ most → s ≤ l → ReadsWithin limit reads → length reads ≡ most →
-    calls_due most l 0 (one_came reads) + 1 ≤ calls_due most l s reads
-due_came most l s limit [] some quiet within full = absurd (omega arith)
-due_came most l s limit (k ∷ later) some quiet within full =
-    let up : calls_due most l s (k ∷ later) ≡ k * (l + 1) - s = cond-true (leb most (length (k ∷ later))) (k * (l + 1) - s) 0 (le-leb most (length (k ∷ later)) (omega arith)) in
-    let split : (k - 1 + 1) * (l + 1) ≡ (k - 1) * (l + 1) + 1 * (l + 1) = add-mul (k - 1) 1 (l + 1) in
-    let same : k - 1 + 1 ≡ k = omega (arith, within.0) in
-    let parts : k * (l + 1) ≡ (k - 1) * (l + 1) + (l + 1) = omega (arith, split, ap (λ j. j * (l + 1)) same) in
-    cond_both (ltb 1 k) ((k - 1) ∷ later) later (λ rs. calls_due most l 0 rs + 1 ≤ calls_due most l s (k ∷ later))
-    (λ e.
-    let low : calls_due most l 0 ((k - 1) ∷ later) ≡ (k - 1) * (l + 1) - 0 = cond-true (leb most (length ((k - 1) ∷ later))) ((k - 1) * (l + 1) - 0) 0 (le-leb most (length ((k - 1) ∷ later)) (omega arith)) in
-    omega (arith, low, up, parts))
-    (λ e.
-    let low : calls_due most l 0 later ≡ 0 = cond-false (leb most (length later)) (oldest later * (l + 1) - 0) 0 (lt-leb most (length later) (omega arith)) in
-    omega (arith, low, up, parts))
-
--- no word came, and the gap is not over
-due_later : (most l s limit : ℕ) (reads : List ℕ) → 1 ≤ most → s < l → ReadsWithin limit reads → length reads ≡ most →
-    calls_due most l (s + 1) reads + 1 ≤ calls_due most l s reads
-due_later most l s limit [] some quiet within full = absurd (omega arith)
-due_later most l s limit (k ∷ later) some quiet within full =
-    let full' = le-leb most (length (k ∷ later)) (omega arith) in
-    let up : calls_due most l s (k ∷ later) ≡ k * (l + 1) - s = cond-true (leb most (length (k ∷ later))) (k * (l + 1) - s) 0 full' in
-    let low : calls_due most l (s + 1) (k ∷ later) ≡ k * (l + 1) - (s + 1) = cond-true (leb most (length (k ∷ later))) (k * (l + 1) - (s + 1)) 0 full' in
-    let one : 1 * (l + 1) ≤ k * (l + 1) = mul-le-mul_right (l + 1) within.0 in
-    omega (arith, low, up, one)
-
--- fewer than P are owed
-due_none : (most l s : ℕ) (reads : List ℕ) → length reads < most → calls_due most l s reads ≡ 0
-due_none most l s reads few = cond-false (leb most (length reads)) (oldest reads * (l + 1) - s) 0 (lt-leb most (length reads) few)
-
--- at most B (L + 1)
-pub due_below : (most l s limit : ℕ) (reads : List ℕ) → ReadsWithin limit reads → calls_due most l s reads ≤ limit * (l + 1)
-due_below most l s limit [] within = cond_both (leb most 0) (0 * (l + 1) - s) 0 (λ d. d ≤ limit * (l + 1)) (λ e. omega arith) (λ e. omega arith)
-due_below most l s limit (k ∷ later) within =
-    let less : k * (l + 1) ≤ limit * (l + 1) = mul-le-mul_right (l + 1) within.1 in
-    cond_both (leb most (length (k ∷ later))) (k * (l + 1) - s) 0 (λ d. d ≤ limit * (l + 1)) (λ e. omega arith) (λ e. omega arith)
-
 -- What a word that comes back, or none, leaves ---------------------------------------
-
--- no words owed: no bursts owed
-none_owed : (limit : ℕ) (reads : List ℕ) → ReadsWithin limit reads → total reads ≡ 0 → length reads ≡ 0
-none_owed limit [] within e = refl
-none_owed limit (k ∷ later) within e = absurd (omega (arith, within.0))
 
 -- what holds after the word: the silence is at most L, and while P bursts were owed the calls left fell
 pub record Eased (n : Numbers) (σ : State) (τ : State) : Type 0 where
@@ -79,38 +35,23 @@ pub record Eased (n : Numbers) (σ : State) (τ : State) : Type 0 where
       calls_due n.pending_limit n.silence_bound τ.silence τ.reads + 1 ≤ calls_due n.pending_limit n.silence_bound σ.silence σ.reads
   pub same : τ.waits ≡ σ.waits
 
-eased_none : (n : Numbers) (σ : State) (x : ℕ) (later : List ℕ) (g : ℕ) → Legal n σ → g ≤ n.silence_bound → σ.owed ≡ x ∷ later → σ.silence < g → Eased n σ (given None σ)
-eased_none n σ x later g legal short some early =
-    let s : silence_after σ.owed σ.silence ≡ σ.silence + 1 = ap (λ xs. silence_after xs σ.silence) some in
-    record {
-      silent = omega (arith, s);
-      fewer = omega arith;
-      falls = λ full. subst (λ t. calls_due n.pending_limit n.silence_bound t σ.reads + 1 ≤ calls_due n.pending_limit n.silence_bound σ.silence σ.reads) (sym s)
-          (due_later n.pending_limit n.silence_bound σ.silence n.burst_limit σ.reads legal.ranges.pending_some (omega arith) legal.reading full);
-      same = refl;
-    }
-
-eased_some : (n : Numbers) (σ : State) (x : ℕ) → Legal n σ → Eased n σ (given (Some x) σ)
-eased_some n σ x legal = record {
-  silent = omega arith;
-  fewer = one_came_below σ.reads;
-  falls = λ full. due_came n.pending_limit n.silence_bound σ.silence n.burst_limit σ.reads legal.ranges.pending_some legal.within.silent legal.reading full;
-  same = refl;
-}
-
-eased_by : (n : Numbers) (σ : State) (owed : List ℕ) (g : ℕ) → Legal n σ → g ≤ n.silence_bound → σ.owed ≡ owed → Eased n σ (given (first_due owed σ.silence g) σ)
-eased_by n σ [] g legal short e =
-    let s : silence_after σ.owed σ.silence ≡ 0 = ap (λ xs. silence_after xs σ.silence) e in
-    let none : length σ.reads ≡ 0 = none_owed n.burst_limit σ.reads legal.reading (legal.counted ∙ ap length e) in
-    let some = legal.ranges.pending_some in
-    record { silent = omega (arith, s); fewer = omega arith; falls = λ full. absurd (omega arith); same = refl }
-eased_by n σ (x ∷ later) g legal short e =
-    cond_both (leb g σ.silence) (Some x) None (λ o. Eased n σ (given o σ))
-    (λ t. eased_some n σ x legal)
-    (λ f. eased_none n σ x later g legal short e (leb-false g σ.silence f))
+silent_by : (l : ℕ) (σ : State) (owed : List ℕ) (g : ℕ) → g ≤ l → σ.silence ≤ l → σ.owed ≡ owed → (given (first_due owed σ.silence g) σ).silence ≤ l
+silent_by l σ [] g short quiet e =
+    let s : silence_after σ.owed σ.silence ≡ 0 = ap (λ xs. silence_after xs σ.silence) e in omega (arith, s)
+silent_by l σ (x ∷ later) g short quiet e =
+    let s : silence_after σ.owed σ.silence ≡ σ.silence + 1 = ap (λ xs. silence_after xs σ.silence) e in
+    cond_both (leb g σ.silence) (Some x) None (λ o. (given o σ).silence ≤ l) (λ t. omega arith)
+    (λ f. let early = leb-false g σ.silence f in omega (arith, s))
 
 pub eased : (n : Numbers) (σ : State) (g : ℕ) → Legal n σ → g ≤ n.silence_bound → Eased n σ (given (word_back σ g) σ)
-eased n σ g legal short = eased_by n σ σ.owed g legal short refl
+eased n σ g legal short =
+    let x = word_back σ g in
+    record {
+      silent = silent_by n.silence_bound σ σ.owed g short legal.within.silent refl;
+      fewer = elim x as (λ y. length (given y σ).reads ≤ length σ.reads) [ None ↦ omega arith | Some v ↦ one_came_below σ.reads ];
+      falls = due_falls n σ x legal;
+      same = elim x as (λ y. (given y σ).waits ≡ σ.waits) [ None ↦ refl | Some v ↦ refl ];
+    }
 
 -- What is done with the command -------------------------------------------------------
 
@@ -189,13 +130,6 @@ in_kind n σ v (Read o k) = cond_both (ltb σ.waits v || bursts_full n σ) reply
 in_kind n σ v (Write o k m d) = cond_both (ltb σ.waits v) reply.Wait reply.Take (Answers (Write o k m d)) (λ e. tt) (λ e. tt)
 
 -- Room for the words of a read -------------------------------------------------------------
-
-total_below : (limit : ℕ) (reads : List ℕ) → ReadsWithin limit reads → total reads ≤ length reads * limit
-total_below limit [] within = omega arith
-total_below limit (k ∷ later) within =
-    let t = total_below limit later within.2 in
-    let s = add-mul (length later) 1 limit in
-    omega (arith, t, s, within.1, ap (λ j. j * limit) (add-one (length later)))
 
 -- while fewer than P bursts are owed, the words of one more fit into B P places
 pub words_fit : (n : Numbers) (ρ : State) (k : ℕ) → Legal n ρ → length ρ.reads < n.pending_limit → k ≤ n.burst_limit → length ρ.owed + k ≤ n.burst_limit * n.pending_limit

@@ -6,11 +6,12 @@ use Rattle.agents.proofs.Greatest.{at_most_greatest}
 use Rattle.agents.proofs.Patience.{Eased, due_first, eased, in_kind, patient_call, within_call, words_fit}
 use Rattle.agents.specs.Memory.{Acted, Gave, Ready, Sound, Timed, fixed_of, lefts, state_of}
 use Rattle.agents.specs.Queue.{items}
-use Rattle.agents.specs.Scripts.{greatest_of, listed, next_place, place_of, value_now}
+use Rattle.agents.specs.Scripts.{InPlace, greatest_of, listed, place_of, value_now}
 use Rattle.agents.specs.Timing.{Patient, bursts_full, gap_place_after, reply_to, wait_place_after, word_back}
 use Rattle.agents.specs.declared.memory.Parts.{Parts}
 use Rattle.port.proofs.Kept.{legal_given, moves_legal, read_fits}
 use Rattle.port.proofs.Rules.{first_later, first_sooner, opening_fits}
+use Rattle.port.proofs.Steps.{acted_memory, acted_owed, acted_reads, burst_given, memory_given, same_state}
 use Rattle.port.proofs.Tally.{words_below}
 use Rattle.port.specs.Lanes.{byte_in, stored, words_at}
 use Rattle.port.specs.Legal.{Legal, OpenWithin, tally}
@@ -25,52 +26,6 @@ use Rattle.port.specs.declared.calls.Reply.{Reply}
 use Rattle.port.specs.declared.calls.Reply.TheVariants as reply
 use Rattle.port.specs.declared.numbers.Numbers.{Numbers}
 use Rattle.port.specs.declared.record.PortRecord.{PortRecord}
-
--- The machine's steps ----------------------------------------------------------------
-
-memory_given : (x : Option ℕ) (σ : State) → (given x σ).memory ≡ σ.memory
-memory_given None σ = refl
-memory_given (Some x) σ = refl
-
-burst_given : (x : Option ℕ) (σ : State) → (given x σ).burst ≡ σ.burst
-burst_given None σ = refl
-burst_given (Some x) σ = refl
-
--- memory, words and bursts after a command come from memory, open burst, words and bursts alone
-acted_memory : (w : ℕ) (c : Command) (a : Reply) (σ τ : State) → σ.memory ≡ τ.memory → σ.burst ≡ τ.burst → (acted w c a σ).memory ≡ (acted w c a τ).memory
-acted_memory w Idle reply.Idle σ τ e b = e
-acted_memory w Idle reply.Wait σ τ e b = e
-acted_memory w Idle reply.Take σ τ e b = e
-acted_memory w (Read o k) reply.Idle σ τ e b = e
-acted_memory w (Read o k) reply.Wait σ τ e b = e
-acted_memory w (Read o k) reply.Take σ τ e b = e
-acted_memory w (Write o k m d) reply.Idle σ τ e b = e
-acted_memory w (Write o k m d) reply.Wait σ τ e b = e
-acted_memory w (Write o k m d) reply.Take σ τ e b =
-    ap (λ h. stored w (beat_offset h o.0) m d σ.memory) b ∙ ap (λ mem. stored w (beat_offset τ.burst o.0) m d mem) e
-
-acted_owed : (w : ℕ) (c : Command) (a : Reply) (σ τ : State) → σ.memory ≡ τ.memory → σ.owed ≡ τ.owed → (acted w c a σ).owed ≡ (acted w c a τ).owed
-acted_owed w Idle reply.Idle σ τ e o = o
-acted_owed w Idle reply.Wait σ τ e o = o
-acted_owed w Idle reply.Take σ τ e o = o
-acted_owed w (Read at k) reply.Idle σ τ e o = o
-acted_owed w (Read at k) reply.Wait σ τ e o = o
-acted_owed w (Read at k) reply.Take σ τ e o =
-    ap (λ xs. xs ++ words_at w (byte_in σ.memory) at.0 k) o ∙ ap (λ mem. τ.owed ++ words_at w (byte_in mem) at.0 k) e
-acted_owed w (Write at k m d) reply.Idle σ τ e o = o
-acted_owed w (Write at k m d) reply.Wait σ τ e o = o
-acted_owed w (Write at k m d) reply.Take σ τ e o = o
-
-acted_reads : (w : ℕ) (c : Command) (a : Reply) (σ τ : State) → σ.reads ≡ τ.reads → (acted w c a σ).reads ≡ (acted w c a τ).reads
-acted_reads w Idle reply.Idle σ τ e = e
-acted_reads w Idle reply.Wait σ τ e = e
-acted_reads w Idle reply.Take σ τ e = e
-acted_reads w (Read at k) reply.Idle σ τ e = e
-acted_reads w (Read at k) reply.Wait σ τ e = e
-acted_reads w (Read at k) reply.Take σ τ e = ap (λ xs. xs ++ (k ∷ [])) e
-acted_reads w (Write at k m d) reply.Idle σ τ e = e
-acted_reads w (Write at k m d) reply.Wait σ τ e = e
-acted_reads w (Write at k m d) reply.Take σ τ e = e
 
 -- What a sound memory gives -------------------------------------------------------------
 
@@ -105,18 +60,6 @@ clocked m c a x sound free replies returns =
 
 -- Room for what is taken -----------------------------------------------------------------
 
-place_below : (size place : ℕ) → place < size → next_place size place < size
-place_below size place lt = cond_both (ltb (place + 1) size) (place + 1) 0 (λ p. p < size) (λ e. ltb-true (place + 1) size e) (λ e. omega arith)
-
-wait_place_below : (a : Reply) (size place : ℕ) → place < size → wait_place_after a size place < size
-wait_place_below reply.Idle size place lt = lt
-wait_place_below reply.Wait size place lt = lt
-wait_place_below reply.Take size place lt = place_below size place lt
-
-gap_place_below : (x : Option ℕ) (size place : ℕ) → place < size → gap_place_after x size place < size
-gap_place_below None size place lt = lt
-gap_place_below (Some x) size place lt = place_below size place lt
-
 -- the beat of a write that is not refused goes to one of the words
 beat_below : (n : Numbers) (b : Option OpenBurst) (o : WordOffset) (k m d : ℕ) → OpenWithin n b → command_rule n b (Write o k m d) ≡ None → beat_offset b o.0 + 1 ≤ n.words
 beat_below n None o k m d within free =
@@ -130,9 +73,6 @@ memory_after_word m0 m1 x gave = gave.memory ∙ sym (memory_given x (state_of m
 
 burst_after_word : (m0 m1 : Parts) (x : Option ℕ) → Gave m0 x m1 → (state_of m1).burst ≡ (given x (state_of m0)).burst
 burst_after_word m0 m1 x gave = ap (λ p. p.burst) gave.alike.plain ∙ sym (burst_given x (state_of m0))
-
-pub few_bytes : (m0 m1 : Parts) (x : Option ℕ) → Sound m0 → Gave m0 x m1 → length (state_of m1).memory ≤ 32768
-few_bytes m0 m1 x sound gave = omega (arith, ap length gave.memory, sound.legal.size, sound.legal.ranges.few)
 
 read_ready : (m0 m1 : Parts) (o : WordOffset) (k : ℕ) (x : Option ℕ) → Sound m0 → refusal_in (fixed_of m0) (state_of m0) (Read o k) ≡ None → Gave m0 x m1 →
     length (state_of m0).reads < (fixed_of m0).pending_limit → Ready (fixed_of m0).width m1 (Read o k) reply.Take
@@ -184,49 +124,38 @@ pub ready : (w : ℕ) (m0 m1 : Parts) (c : Command) (a : Reply) (x : Option ℕ)
 ready w m0 m1 c a x sound wide free replies gave =
     subst (λ k. Ready k m1 c a) wide (subst (Ready (fixed_of m0).width m1 c) (sym replies) (ready_by m0 m1 c x sound free gave))
 
-pub waits_in_place : (m0 m1 : Parts) (x : Option ℕ) → Sound m0 → Gave m0 x m1 → place_of m1.waits < length (listed m1.waits)
-waits_in_place m0 m1 x sound gave = omega (arith, sound.waits_in, gave.waits_at, ap length gave.alike.waits)
-
 -- The whole call ---------------------------------------------------------------------------
 
 -- a memory with another plain record
-abbrev pub with_plain : Parts → PortRecord → Parts
-with_plain m p = record { bytes = m.bytes; waits = m.waits; gaps = m.gaps; words = m.words; bursts = m.bursts; plain = p }
+abbrev pub with_plain : (m : Parts) → PortRecord → InPlace m.waits → InPlace m.gaps → Parts
+with_plain m p waits_in gaps_in = record m { plain = p; waits_in = waits_in; gaps_in = gaps_in }
+
+-- the state that the call leads to
+abbrev pub after_of : Parts → Command → Reply → Option ℕ → State
+after_of m c a x = moved (fixed_of m).width (state_of m) c a x
 
 -- the steps of a call
-pub record Steps (w : ℕ) (m0 m1 m2 : Parts) (c : Command) (a : Reply) (x : Option ℕ) : Type 0 where
+pub record Steps (w : ℕ) (m0 m1 m2 : Parts) (p : PortRecord) (c : Command) (a : Reply) (x : Option ℕ) : Type 0 where
   pub sound : Sound m0
   pub wide : (fixed_of m0).width ≡ w
   pub free : refusal_in (fixed_of m0) (state_of m0) c ≡ None
   pub replies : a ≡ reply_to (fixed_of m0) (state_of m0) (value_now m0.waits) c
   pub gave : Gave m0 x m1
   pub acts : Acted w m1 c a m2
+  pub told : m2.plain ≡ tally (fixed_of m0) (state_of m0) → p ≡ tally (fixed_of m0) (after_of m0 c a x)
 
--- the state that the call leads to
-abbrev after_of : Parts → Command → Reply → Option ℕ → State
-after_of m c a x = moved (fixed_of m).width (state_of m) c a x
-
-abbrev the_state : State → List ℕ → List ℕ → List ℕ → State
-the_state τ memory owed reads = record { memory = memory; burst = τ.burst; held = τ.held; owed = owed; reads = reads; waits = τ.waits; silence = τ.silence }
-
--- a state with an equal memory, equal words and equal bursts
-pub same_state : (τ : State) (memory owed reads : List ℕ) → memory ≡ τ.memory → owed ≡ τ.owed → reads ≡ τ.reads →
-    ◌≡◌ {A = State} (record { memory = memory; burst = τ.burst; held = τ.held; owed = owed; reads = reads; waits = τ.waits; silence = τ.silence }) τ
-same_state τ memory owed reads em eo er =
-    ap (λ (mem : List ℕ). the_state τ mem owed reads) em ∙ (ap (λ (ws : List ℕ). the_state τ τ.memory ws reads) eo ∙ ap (λ (rs : List ℕ). the_state τ τ.memory τ.owed rs) er)
-
-state_after : (w : ℕ) (m0 m1 m2 : Parts) (c : Command) (a : Reply) (x : Option ℕ) → Steps w m0 m1 m2 c a x →
-    state_of (with_plain m2 (tally (fixed_of m0) (after_of m0 c a x))) ≡ after_of m0 c a x
-state_after w m0 m1 m2 c a x s =
+state_after : (w : ℕ) (m0 m1 m2 : Parts) (p : PortRecord) (c : Command) (a : Reply) (x : Option ℕ) (waits_in : InPlace m2.waits) (gaps_in : InPlace m2.gaps) → Steps w m0 m1 m2 p c a x →
+    state_of (with_plain m2 (tally (fixed_of m0) (after_of m0 c a x)) waits_in gaps_in) ≡ after_of m0 c a x
+state_after w m0 m1 m2 p c a x waits_in gaps_in s =
     let ρ = given x (state_of m0) in
     let wider = s.wide in
-    let memory : m2.bytes.now ≡ (after_of m0 c a x).memory =
+    let memory : m2.bytes.all.now ≡ (after_of m0 c a x).memory =
     s.acts.memory ∙ (acted_memory w c a (state_of m1) ρ (memory_after_word m0 m1 x s.gave) (burst_after_word m0 m1 x s.gave) ∙ ap (λ k. (acted k c a ρ).memory) (sym wider)) in
     let owed : items m2.words ≡ (after_of m0 c a x).owed =
     s.acts.owed ∙ (acted_owed w c a (state_of m1) ρ (memory_after_word m0 m1 x s.gave) s.gave.owed ∙ ap (λ k. (acted k c a ρ).owed) (sym wider)) in
     let reads : lefts m2.bursts ≡ (after_of m0 c a x).reads =
     s.acts.reads ∙ (acted_reads w c a (state_of m1) ρ s.gave.reads ∙ ap (λ k. (acted k c a ρ).reads) (sym wider)) in
-    same_state (after_of m0 c a x) m2.bytes.now (items m2.words) (lefts m2.bursts) memory owed reads
+    same_state (after_of m0 c a x) m2.bytes.all.now (items m2.words) (lefts m2.bursts) memory owed reads
 
 -- what a call leaves
 pub record Leaves (m0 m3 : Parts) (c : Command) (a : Reply) (x : Option ℕ) : Type 0 where
@@ -235,16 +164,16 @@ pub record Leaves (m0 m3 : Parts) (c : Command) (a : Reply) (x : Option ℕ) : T
   pub moves : Clocks (fixed_of m0) (state_of m0) c a x (state_of m3)
   pub timing : Timed m0 c (Clocked a x) m3
 
-leaves_tally : (w : ℕ) (m0 m1 m2 : Parts) (c : Command) (a : Reply) (x : Option ℕ) → Steps w m0 m1 m2 c a x →
-    Leaves m0 (with_plain m2 (tally (fixed_of m0) (after_of m0 c a x))) c a x
-leaves_tally w m0 m1 m2 c a x s =
+leaves_tally : (w : ℕ) (m0 m1 m2 : Parts) (p : PortRecord) (c : Command) (a : Reply) (x : Option ℕ) (waits_in : InPlace m2.waits) (gaps_in : InPlace m2.gaps) → Steps w m0 m1 m2 p c a x →
+    Leaves m0 (with_plain m2 (tally (fixed_of m0) (after_of m0 c a x)) waits_in gaps_in) c a x
+leaves_tally w m0 m1 m2 p c a x waits_in gaps_in s =
     let n = fixed_of m0 in
     let σ = state_of m0 in
     let τ = after_of m0 c a x in
     let sound = s.sound in
     let gave = s.gave in
     let acts = s.acts in
-    let e = state_after w m0 m1 m2 c a x s in
+    let e = state_after w m0 m1 m2 p c a x waits_in gaps_in s in
     let clocks = clocked m0 c a x sound s.free s.replies gave.word in
     let legal = moves_legal n σ c a x τ sound.legal clocks in
     let size = length (listed m0.waits) in
@@ -261,23 +190,21 @@ leaves_tally w m0 m1 m2 c a x s =
     (patient_call n σ (given x σ) (value_now m0.waits) c later sound.legal (easy m0 x sound gave.word) sound.waiting refl refl) legal in
     record {
       sound = record {
-        words_fit = acts.alike.words_fit;
-        bursts_fit = acts.alike.bursts_fit;
         words_room = omega (arith, sound.words_room, gave.alike.words_room, acts.alike.words_room);
         bursts_room = omega (arith, sound.bursts_room, gave.alike.bursts_room, acts.alike.bursts_room);
-        waits_in = omega (arith, waits_at, ap length waits-listed, wait_place_below a size place sound.waits_in);
-        gaps_in = omega (arith, gaps_at, ap length gaps-listed, gap_place_below x (length (listed m0.gaps)) (place_of m0.gaps) sound.gaps_in);
         tallied = ap (tally n) (sym e);
         legal = subst (Legal n) (sym e) legal;
         prompt = sound.prompt ∙ ap greatest_of (sym gaps-listed);
         patient = sound.patient ∙ ap (λ xs. greatest_of xs + n.burst_limit * (n.silence_bound + 1)) (sym waits-listed);
-        waiting = subst (λ v. Patient n (state_of (with_plain m2 (tally n τ))) v) (sym value) (subst (λ t. Patient n t (later a)) (sym e) calm);
+        waiting = subst (λ v. Patient n (state_of (with_plain m2 (tally n τ) waits_in gaps_in)) v) (sym value) (subst (λ t. Patient n t (later a)) (sym e) calm);
       };
       fixed = refl;
       moves = subst (Clocks n σ c a x) (sym e) clocks;
       timing = (s.replies, gave.word, waits-listed, gaps-listed, waits_at, gaps_at);
     }
 
-pub leaves : (w : ℕ) (m0 m1 m2 : Parts) (p : PortRecord) (c : Command) (a : Reply) (x : Option ℕ) → Steps w m0 m1 m2 c a x →
-    p ≡ tally (fixed_of m0) (after_of m0 c a x) → Leaves m0 (with_plain m2 p) c a x
-leaves w m0 m1 m2 p c a x s e = subst (λ q. Leaves m0 (with_plain m2 q) c a x) (sym e) (leaves_tally w m0 m1 m2 c a x s)
+pub leaves : (w : ℕ) (m0 m1 m2 : Parts) (p : PortRecord) (c : Command) (a : Reply) (x : Option ℕ) (waits_in : InPlace m2.waits) (gaps_in : InPlace m2.gaps) → Steps w m0 m1 m2 p c a x →
+    Leaves m0 (with_plain m2 p waits_in gaps_in) c a x
+leaves w m0 m1 m2 p c a x waits_in gaps_in s =
+    let e = s.told (s.acts.alike.plain ∙ (s.gave.alike.plain ∙ s.sound.tallied)) in
+    subst (λ q. Leaves m0 (with_plain m2 q waits_in gaps_in) c a x) (sym e) (leaves_tally w m0 m1 m2 p c a x waits_in gaps_in s)

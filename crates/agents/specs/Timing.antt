@@ -3,6 +3,7 @@
 use Rattle.std.specs.Prelude.{ℕ, ◌+◌, ◌-◌, ◌*◌, ◌≤◌, Bool, cond, ◌||◌, List, [], ◌∷◌, length, Some, None, Option, nat_le, nat_lt}
 use Rattle.agents.specs.Scripts.{next_place}
 use Rattle.port.specs.State.{State}
+use Rattle.port.specs.Waiting.{calls_due}
 use Rattle.port.specs.declared.calls.Command.{Command}
 use Rattle.port.specs.declared.calls.Command.TheVariants.{Idle, Read, Write}
 use Rattle.port.specs.declared.calls.Reply.{Reply}
@@ -40,15 +41,6 @@ gap_place_after None size place = place
 gap_place_after (Some x) size place = next_place size place
 
 -- Why no command waits longer than A ------------------------------------------
-
--- the words left of the oldest read burst
-abbrev pub oldest : List ℕ → ℕ
-oldest [] = 0
-oldest (k ∷ later) = k
-
--- q: how many calls at most until a read burst ends, while P are owed
-abbrev pub calls_due : ℕ → ℕ → ℕ → List ℕ → ℕ
-calls_due most l s reads = cond (nat_le most (length reads)) (oldest reads * (l + 1) - s) 0
 
 -- r + q ≤ v + B (L + 1)
 abbrev pub Patient : Numbers → State → ℕ → Type 0

@@ -1,21 +1,20 @@
 //! Words in a memory of bytes: reading one, and storing the enabled lanes of one.
-ghost use Rattle.std.specs.Prelude.{◌≡◌, ◌+◌, ◌*◌, ◌<◌, ◌≤◌, length};
-ghost use Rattle.port.specs.Lanes.{byte_in, enabled, joined_bytes, lane, lanes_stored, stored, word_at};
+ghost use Rattle.std.specs.Prelude.{◌≡◌, ℕ, ◌+◌, ◌*◌, ◌<◌, ◌≤◌, length};
+ghost use Rattle.port.specs.Lanes.{byte_in, enabled, joined_bytes, lanes_stored, stored, word_at};
 
 use port::addresses::WordOffset;
 use port::calls::Word;
 use port::width::Width;
 
-/// Lane `i` of a word.
-fn lane_of(word: Word, i: u8) -> u8
-    requires { i < 8 }
-    ensures { result ≡ lane word i }
-{
-    ((word >> (8 * i)) % 256) as u8
+/// The bytes of a memory that is lent, no more than a port may have.
+#[derive(Drop)]
+pub struct Bytes<'a> {
+    all: &'a mut [u8],
+    ghost few: { length all.now ≤ 32768 },
 }
 
 /// Whether a mask enables lane `i`.
-fn is_enabled(mask: u8, i: u8) -> bool
+fn is_enabled(mask: u8, i: usize) -> bool
     requires { i < 8 }
     ensures { result ≡ enabled mask i }
 {
@@ -24,55 +23,60 @@ fn is_enabled(mask: u8, i: u8) -> bool
 
 /// The address of the first byte of a word, as an index into a memory that has it.
 fn start_of<W: Width>(offset: WordOffset) -> usize
-    requires { offset.0 * W.Width.wide ≤ 32768 }
-    ensures { result ≡ offset.0 * W.Width.wide }
+    requires { offset.0 * W.BYTES ≤ 32768 }
+    ensures { result ≡ offset.0 * W.BYTES }
 {
-    match W::multiply(offset) {
-        Some(address) => address.0 as usize,
-        None => unreachable(),
-    }
+    W::multiply(offset).unwrap().0 as usize
 }
 
-/// The word whose lanes, lowest first, are the `n` bytes from `start` on.
-fn join(bytes: &[u8], start: usize, n: u8) -> Word
-    requires { (n ≤ 8) × (start + n ≤ length bytes.now) }
-    ensures { result ≡ joined_bytes (byte_in bytes.now) start n }
+/// The word of these lanes, the lowest first.
+fn join(lanes: &[u8]) -> Word
+    requires { length lanes.now ≤ 8 }
+    ensures { result ≡ joined_bytes (byte_in lanes.now) 0 (length lanes.now) }
 {
-    let mut word: Word = 0;
-    for i in (0..n).rev() {
-        word = word * 256 + bytes[start + i as usize] as Word;
-    }
-    word
+    let mut word = [0; 8];
+    word[..lanes.len()].copy_from_slice(lanes);
+    Word::from_le_bytes(word)
 }
 
 /// Stores the lanes of a word that the mask enables, of its first `n`, from `start` on.
-fn store(bytes: &mut [u8], start: usize, n: u8, mask: u8, word: Word)
+fn store(bytes: &mut [u8], start: usize, n: usize, mask: u8, word: Word)
     requires { (n ≤ 8) × (start + n ≤ length bytes.old) }
     ensures { bytes.new ≡ lanes_stored start mask word n bytes.old }
 {
-    for i in 0..n {
+    let lanes = word.to_le_bytes();
+    for (i, lane) in lanes[..n].iter().enumerate() {
         if is_enabled(mask, i) {
-            bytes[start + i as usize] = lane_of(word, i);
+            bytes[start + i] = *lane;
         }
     }
 }
 
-/// The word at an offset.
-pub fn word_at<W: Width>(bytes: &[u8], offset: WordOffset) -> Word
-    requires { (length bytes.now ≤ 32768) × (offset.0 * W.Width.wide + W.Width.wide ≤ length bytes.now) }
-    ensures { result ≡ word_at W.Width.wide (byte_in bytes.now) offset.0 }
-{
-    let start = start_of::<W>(offset);
-    let n = W::width();
-    join(bytes, start, n)
-}
+impl<'a> Bytes<'a> {
+    /// The bytes of a slice.
+    pub fn over(all: &'a mut [u8]) -> Bytes<'a>
+        requires { length all.old ≤ 32768 }
+        ensures same { result.all.now ≡ all.old }
+        ensures bytes { (address : ℕ) → byte_in result.all.now address < 256 }
+    {
+        Bytes { all }
+    }
 
-/// Stores the enabled lanes of a word at an offset.
-pub fn store_word<W: Width>(bytes: &mut [u8], offset: WordOffset, mask: u8, word: Word)
-    requires { (length bytes.old ≤ 32768) × (offset.0 * W.Width.wide + W.Width.wide ≤ length bytes.old) }
-    ensures { bytes.new ≡ stored W.Width.wide offset.0 mask word bytes.old }
-{
-    let start = start_of::<W>(offset);
-    let n = W::width();
-    store(bytes, start, n, mask, word);
+    /// The word at an offset.
+    pub fn word_at<W: Width>(&self, offset: WordOffset) -> Word
+        requires { offset.0 * W.BYTES + W.BYTES ≤ length self.now.all.now }
+        ensures { result ≡ word_at W.BYTES (byte_in self.now.all.now) offset.0 }
+    {
+        let start = start_of::<W>(offset);
+        join(&self.all[start..start + W::BYTES as usize])
+    }
+
+    /// Stores the enabled lanes of a word at an offset.
+    pub fn store_word<W: Width>(&mut self, offset: WordOffset, mask: u8, word: Word)
+        requires { offset.0 * W.BYTES + W.BYTES ≤ length self.old.all.now }
+        ensures { self.new.all.now ≡ stored W.BYTES offset.0 mask word self.old.all.now }
+    {
+        let start = start_of::<W>(offset);
+        store(self.all, start, W::BYTES as usize, mask, word);
+    }
 }

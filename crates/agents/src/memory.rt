@@ -1,14 +1,19 @@
 //! The scripted memory: a port over bytes that are lent to it. One script says how often each command waits, and another
 //! how many calls go by before each word.
+ghost use Rattle.agents.specs.Scripts.{InPlace};
+
+use crate::lanes::Bytes;
 use crate::queue::Ring;
 use crate::script::Script;
+use port::calls::Word;
 use port::record::PortRecord;
-use std::marker::PhantomData;
 
 mod build;
 mod clocks;
 mod moves;
 mod timing;
+
+pub use clocks::ScriptedMemory;
 
 /// A read burst that is owed.
 #[derive(Clone, Copy)]
@@ -24,7 +29,7 @@ pub struct Storage<'a> {
     pub waits: &'a [u8],
     pub gaps: &'a [u8],
     /// Places for the words owed.
-    pub words: &'a mut [u64],
+    pub words: &'a mut [Word],
     /// Places for the read bursts owed.
     pub bursts: &'a mut [ReadBurst],
 }
@@ -32,17 +37,12 @@ pub struct Storage<'a> {
 /// What a memory holds, at any width of its words.
 #[derive(Drop)]
 pub(crate) struct Parts<'a> {
-    bytes: &'a mut [u8],
+    bytes: Bytes<'a>,
     waits: Script<'a>,
     gaps: Script<'a>,
-    words: Ring<'a, u64>,
+    words: Ring<'a, Word>,
     bursts: Ring<'a, ReadBurst>,
     plain: PortRecord,
-}
-
-/// A memory with words of the width `W`.
-#[derive(Drop)]
-pub struct ScriptedMemory<'a, W> {
-    parts: Parts<'a>,
-    width: PhantomData<W>,
+    ghost waits_in: { InPlace waits },
+    ghost gaps_in: { InPlace gaps },
 }

@@ -1,4 +1,5 @@
 //! A queue over storage that is lent to it: its items go round in one slice.
+ghost use Rattle.std.specs.Prelude.{◌≤◌, length};
 
 mod steps;
 
@@ -8,4 +9,6 @@ pub struct Ring<'a, T> {
     slots: &'a mut [T],
     head: usize,
     count: usize,
+    ghost begins: { head ≤ length slots.now },
+    ghost fits: { count ≤ length slots.now },
 }

@@ -1,77 +1,54 @@
 //! Building a scripted memory over storage that is lent to it. Storage or limits out of range are refused, and the
 //! storage comes back.
-ghost use Rattle.std.specs.Prelude.{◌≡◌, ℕ, ◌<◌, ◌≤◌, ◌&&◌, Ok, Err, nat_le};
+ghost use Rattle.std.specs.Prelude.{◌≡◌, ◌≤◌, Ok, Err};
 ghost use Rattle.agents.specs.Building.{Built, Enough, Unchanged, numbers_of};
-ghost use Rattle.agents.specs.Memory.{Whole};
-ghost use Rattle.port.specs.Lanes.{byte_in};
 ghost use Rattle.port.specs.Refusals.{number_of};
 
+use crate::lanes::Bytes;
 use crate::memory::{Parts, ScriptedMemory, Storage};
 use crate::queue::Ring;
 use crate::script::{Script, greatest};
 use port::calls::Refusal;
-use port::numbers::Numbers;
+use port::numbers::{Limits, Numbers};
 use port::record::PortRecord;
 use port::width::Width;
 use std::marker::PhantomData;
 
-/// Whether a number is from `low` to `high`.
-fn is_within(n: usize, low: usize, high: usize) -> bool
-    ensures { result ≡ nat_le low n && nat_le n high }
-{
-    low <= n && n <= high
-}
-
 /// The numbers of a memory of `size` bytes: the scripts give its bounds.
-fn numbers_for<W: Width>(
-    size: usize,
-    waits: &[u8],
-    gaps: &[u8],
-    burst_limit: u8,
-    pending_limit: u8,
-) -> Numbers
+fn numbers_for<W: Width>(size: usize, waits: &[u8], gaps: &[u8], limits: Limits) -> Numbers
     requires { size ≤ 32768 }
-    ensures are { result ≡ numbers_of W.Width.wide size waits.now gaps.now burst_limit pending_limit }
+    ensures are { result ≡ numbers_of W.BYTES size waits.now gaps.now limits.burst limits.pending }
     ensures small { (result.wait_bound ≤ 100000000) × (result.silence_bound ≤ 100000000) }
 {
-    let width = W::width();
     let silence_bound = greatest(gaps) as u32;
-    let wait_bound = greatest(waits) as u32 + burst_limit as u32 * (silence_bound + 1);
-    let words = (size / width as usize) as u32;
+    let wait_bound = greatest(waits) as u32 + limits.burst as u32 * (silence_bound + 1);
     Numbers {
-        width,
-        words,
-        burst_limit,
-        pending_limit,
+        width: W::BYTES,
+        words: (size / W::BYTES as usize) as u32,
+        burst_limit: limits.burst,
+        pending_limit: limits.pending,
         wait_bound,
         silence_bound,
     }
 }
 
-/// The elements of a slice of bytes are bytes: for contracts, which know this only of a slice that is handed on.
-fn look_at(bytes: &[u8])
-    ensures { (address : ℕ) → byte_in bytes.now address < 256 }
-{
-    let _ = bytes.first();
-}
-
 impl<'a> Storage<'a> {
     /// Whether a memory with these limits can be built over the storage.
-    fn check(&self, burst_limit: u8, pending_limit: u8) -> Result<(), Refusal>
+    fn check(&self, limits: Limits) -> Result<(), Refusal>
         ensures { elim result [
-          | Ok _ ↦ Enough self.now burst_limit pending_limit
-          | Err e ↦ (number_of e ≡ 2) × (Enough self.now burst_limit pending_limit → ⊥)
+          | Ok _ ↦ Enough self.now limits.burst limits.pending
+          | Err e ↦ (number_of e ≡ 2) × (Enough self.now limits.burst limits.pending → ⊥)
         ] }
     {
-        let beats = burst_limit as usize;
-        let pending = pending_limit as usize;
-        if !is_within(beats, 1, 64) || !is_within(pending, 1, 16) {
+        let beats = limits.burst as usize;
+        let pending = limits.pending as usize;
+        if !(1..=64).contains(&beats) || !(1..=16).contains(&pending) {
             return Err(Refusal::OutOfRange);
         }
-        if self.bytes.len() % 8 != 0 || !is_within(self.bytes.len(), 8, 32768) {
+        if self.bytes.len() % 8 != 0 || !(8..=32768).contains(&self.bytes.len()) {
             return Err(Refusal::OutOfRange);
         }
-        if !is_within(self.waits.len(), 1, 256) || !is_within(self.gaps.len(), 1, 256) {
+        if !(1..=256).contains(&self.waits.len()) || !(1..=256).contains(&self.gaps.len()) {
             return Err(Refusal::OutOfRange);
         }
         if self.words.len() < beats * pending || self.bursts.len() < pending {
@@ -79,22 +56,14 @@ impl<'a> Storage<'a> {
         }
         Ok(())
     }
-
-    /// The memory's bytes are bytes.
-    fn look(&self)
-        ensures { (address : ℕ) → byte_in self.now.bytes.now address < 256 }
-    {
-        look_at(self.bytes);
-    }
 }
 
 impl<'a> Parts<'a> {
     /// The parts of a memory at reset.
-    fn over<W: Width>(storage: Storage<'a>, burst_limit: u8, pending_limit: u8) -> Parts<'a>
-        requires { Enough storage burst_limit pending_limit }
-        ensures { Built W.Width.wide storage.entry.bytes.now storage.entry.waits.now storage.entry.gaps.now burst_limit pending_limit result }
+    fn over<W: Width>(storage: Storage<'a>, limits: Limits) -> Parts<'a>
+        requires { Enough storage limits.burst limits.pending }
+        ensures { Built W.BYTES storage.entry.bytes.now storage.entry.waits.now storage.entry.gaps.now limits.burst limits.pending result }
     {
-        storage.look();
         let Storage {
             bytes,
             waits,
@@ -102,9 +71,9 @@ impl<'a> Parts<'a> {
             words,
             bursts,
         } = storage;
-        let numbers = numbers_for::<W>(bytes.len(), waits, gaps, burst_limit, pending_limit);
+        let numbers = numbers_for::<W>(bytes.len(), waits, gaps, limits);
         Parts {
-            bytes,
+            bytes: Bytes::over(bytes),
             waits: Script::new(waits),
             gaps: Script::new(gaps),
             words: Ring::over(words),
@@ -118,25 +87,20 @@ impl<'a, W: Width> ScriptedMemory<'a, W> {
     /// A memory at reset over the storage. What cannot be built is refused, and all the storage comes back as it was.
     pub fn new(
         storage: Storage<'a>,
-        burst_limit: u8,
-        pending_limit: u8,
+        limits: Limits,
     ) -> Result<ScriptedMemory<'a, W>, (Refusal, Storage<'a>)>
         ensures { elim result [
-          | Ok m ↦ Enough storage.entry burst_limit pending_limit
-              × Whole W.Width.wide m
-              × Built W.Width.wide storage.entry.bytes.now storage.entry.waits.now storage.entry.gaps.now burst_limit pending_limit m.parts
-          | Err e ↦ (number_of e.0 ≡ 2) × (Enough storage.entry burst_limit pending_limit → ⊥) × Unchanged storage.entry e.1
+          | Ok m ↦ Enough storage.entry limits.burst limits.pending
+              × Built W.BYTES storage.entry.bytes.now storage.entry.waits.now storage.entry.gaps.now limits.burst limits.pending m.parts
+          | Err e ↦ (number_of e.0 ≡ 2) × (Enough storage.entry limits.burst limits.pending → ⊥) × Unchanged storage.entry e.1
         ] }
     {
-        match storage.check(burst_limit, pending_limit) {
-            Ok(()) => {
-                let parts = Parts::over::<W>(storage, burst_limit, pending_limit);
-                Ok(ScriptedMemory {
-                    parts,
-                    width: PhantomData,
-                })
-            }
-            Err(refusal) => Err((refusal, storage)),
+        if let Err(refusal) = storage.check(limits) {
+            return Err((refusal, storage));
         }
+        Ok(ScriptedMemory {
+            parts: Parts::over::<W>(storage, limits),
+            width: PhantomData,
+        })
     }
 }

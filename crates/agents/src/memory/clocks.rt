@@ -1,71 +1,57 @@
-//! The clock call of a scripted memory, and the memory as a port. A port's clock cannot promise the timing of one make
-//! in its own contract, so the memory has the same call as a method of its own, which does.
-ghost use Rattle.std.specs.Prelude.{◌≡◌, None};
-ghost use Rattle.agents.specs.Memory.{Sound, Timed, Whole, fixed_of, state_of};
+//! The scripted memory as a port, with its clock call.
+ghost use Rattle.std.specs.Prelude.{◌≡◌, None, Ok};
+ghost use Rattle.agents.specs.Memory.{Sound, Timed, fixed_of, state_of};
+ghost use Rattle.agents.specs.Single.{sound_prop};
 ghost use Rattle.port.specs.Machine.{Moves, refusal_in};
 
-use crate::memory::{Parts, ScriptedMemory};
-use port::calls::{Answer, Command};
+use crate::memory::Parts;
+use port::calls::{Answer, Clocked, Command};
 use port::ports::Port;
 use port::record::PortRecord;
 use port::width::Width;
+use std::marker::PhantomData;
 
-impl<'a> Parts<'a> {
+/// A memory with words of the width `W`.
+#[derive(Drop)]
+pub struct ScriptedMemory<'a, W: Width> {
+    pub(super) parts: Parts<'a>,
+    pub(super) width: PhantomData<W>,
+    ghost sound: { Sound parts } by { sound_prop parts },
+    ghost named: { (fixed_of parts).width ≡ W.BYTES },
+}
+
+impl<'a, W: Width> ScriptedMemory<'a, W> {
     /// A clock call that is not refused: a word back if one is due, then idle, wait or take.
-    fn serve<W: Width>(&mut self, command: Command) -> Answer
-        requires { (Sound self.old) × (((fixed_of self.old).width ≡ W.Width.wide) × (refusal_in (fixed_of self.old) (state_of self.old) command ≡ None)) }
-        ensures sound { Sound self.new }
-        ensures fixed { fixed_of self.new ≡ fixed_of self.old }
-        ensures moves { Moves (fixed_of self.old) (state_of self.old) command result (state_of self.new) }
-        ensures timing { Timed self.old command result self.new }
+    fn serve(&mut self, command: Command) -> Clocked
+        requires { refusal_in (fixed_of self.old.parts) (state_of self.old.parts) command ≡ None }
+        ensures fixed { fixed_of self.new.parts ≡ fixed_of self.old.parts }
+        ensures moves { Moves (fixed_of self.old.parts) (state_of self.old.parts) command (Ok result) (state_of self.new.parts) }
+        ensures timing { Timed self.old.parts command (Ok result) self.new.parts }
     {
         let reply = self.reply(command);
-        let came = self.give();
-        self.act::<W>(command, reply);
-        self.plain.clock(command, reply, came.returned);
-        Answer::Clocked(reply, came.word)
-    }
-
-    /// One clock call.
-    pub(crate) fn clock<W: Width>(&mut self, command: Command) -> Answer
-        requires { (Sound self.old) × ((fixed_of self.old).width ≡ W.Width.wide) }
-        ensures sound { Sound self.new }
-        ensures fixed { fixed_of self.new ≡ fixed_of self.old }
-        ensures moves { Moves (fixed_of self.old) (state_of self.old) command result (state_of self.new) }
-        ensures timing { Timed self.old command result self.new }
-    {
-        match self.plain.refusal(command) {
-            Some(reason) => Answer::Refused(reason),
-            None => self.serve::<W>(command),
-        }
+        let parts = &mut self.parts;
+        let returned = parts.give();
+        parts.act::<W>(command, reply);
+        parts.plain.clock(command, reply, returned)
     }
 }
 
 impl<'a, W: Width> Port for ScriptedMemory<'a, W> {
-    const BYTES: u8 = W::BYTES;
-
-    ghost wide = { W.Width.wide };
-
-    ghost sound = { λ m. Whole W.Width.wide m };
+    type Width = W;
 
     ghost fixed = { λ m. fixed_of m.parts };
 
     ghost state = { λ m. state_of m.parts };
 
-    ghost legal = { λ m kept. kept.0.legal };
+    ghost legal = { λ m. m.sound.legal };
 
-    ghost named = { λ m kept. kept.1 };
+    ghost named = { λ m. m.named };
 
     ghost timing = { λ was c a is. Timed was.parts c a is.parts };
 
-    fn width() -> u8
-        ensures { result ≡ W.Width.wide }
-    {
-        W::width()
-    }
-
     fn clock(&mut self, command: Command) -> Answer {
-        self.parts.clock::<W>(command)
+        self.parts.plain.check(command)?;
+        Ok(self.serve(command))
     }
 
     fn status(&self) -> PortRecord {

@@ -1,14 +1,13 @@
 //! What a scripted memory does with a command that is taken: it owes the words of a read, as the bytes are then, and
 //! stores the beat of a write.
-ghost use Rattle.std.specs.Prelude.{◌≡◌, ◌+◌, ◌*◌, ◌<◌, ◌≤◌, [], ◌∷◌, ◌++◌, length};
-ghost use Rattle.agents.specs.Memory.{Acted, Owed, Ready, lefts};
-ghost use Rattle.agents.specs.Queue.{Fit, items, room};
-ghost use Rattle.agents.specs.Scripts.{InPlace};
-ghost use Rattle.port.specs.Lanes.{byte_in, word_at, words_at};
+ghost use Rattle.std.specs.Prelude.{◌≡◌, ◌+◌, ◌*◌, ◌≤◌, ◌++◌, length};
+ghost use Rattle.agents.specs.Memory.{Acted, Ready};
+ghost use Rattle.agents.specs.Queue.{items, room};
+ghost use Rattle.port.specs.Lanes.{byte_in, words_at};
 ghost use Rattle.port.specs.Machine.{beat_offset};
 ghost use Rattle.port.specs.declared.calls.Reply.TheVariants.{Take};
 
-use crate::lanes::{store_word, word_at};
+use crate::lanes::Bytes;
 use crate::memory::{Parts, ReadBurst};
 use crate::queue::Ring;
 use port::addresses::WordOffset;
@@ -19,71 +18,38 @@ use port::width::Width;
 fn beat_place(burst: Option<OpenBurst>, offset: WordOffset) -> WordOffset
     ensures { result.0 ≡ beat_offset burst offset.0 }
 {
-    match burst {
-        None => offset,
-        Some(burst) => WordOffset(burst.next),
-    }
+    burst.map_or(offset, |burst| WordOffset(burst.next))
 }
 
-/// Puts a read burst into the queue of those owed.
-fn owe_burst(bursts: &mut Ring<'_, ReadBurst>, left: u16)
-    requires { (Fit bursts.old) × (length (items bursts.old) < room bursts.old) }
-    ensures fits { Fit bursts.new }
-    ensures same { room bursts.new ≡ room bursts.old }
-    ensures owes { lefts bursts.new ≡ lefts bursts.old ++ (left ∷ []) }
+/// Puts the words of a read burst, as the bytes are now, after the words owed.
+fn owe_words<W: Width>(
+    words: &mut Ring<'_, Word>,
+    bytes: &Bytes<'_>,
+    offset: WordOffset,
+    count: u16,
+)
+    requires fits { length (items words.old) + count ≤ room words.old }
+    requires within { (offset.0 + count ≤ 32768) × ((offset.0 + count) * W.BYTES ≤ length bytes.now.all.now) }
+    ensures same { room words.new ≡ room words.old }
+    ensures owes { items words.new ≡ items words.old ++ words_at W.BYTES (byte_in bytes.now.all.now) offset.0 count }
 {
-    match bursts.put(ReadBurst { left }) {
-        Ok(()) => {}
-        // there is room
-        Err(_) => unreachable(),
+    for place in offset.0..offset.0 + count as u32 {
+        words.push(bytes.word_at::<W>(WordOffset(place)));
     }
 }
 
 impl<'a> Parts<'a> {
-    /// The word at an offset, as the bytes are now.
-    fn look<W: Width>(&self, offset: WordOffset) -> Word
-        requires { (length self.now.bytes.now ≤ 32768) × (offset.0 * W.Width.wide + W.Width.wide ≤ length self.now.bytes.now) }
-        ensures { result ≡ word_at W.Width.wide (byte_in self.now.bytes.now) offset.0 }
-    {
-        word_at::<W>(self.bytes, offset)
-    }
-
-    /// Puts a word after the words owed.
-    fn owe(&mut self, word: Word)
-        requires { (Fit self.old.words) × (length (items self.old.words) < room self.old.words) }
-        ensures { Owed (word ∷ []) self.old self.new }
-    {
-        match self.words.put(word) {
-            Ok(()) => {}
-            // there is room
-            Err(_) => unreachable(),
-        }
-    }
-
-    /// Puts the words of a read burst, as the bytes are now, after the words owed.
-    fn owe_words<W: Width>(&mut self, offset: WordOffset, count: u16)
-        requires fits { (Fit self.old.words) × (length (items self.old.words) + count ≤ room self.old.words) }
-        requires within { (length self.old.bytes.now ≤ 32768) × ((offset.0 + count ≤ 32768) × ((offset.0 + count) * W.Width.wide ≤ length self.old.bytes.now)) }
-        ensures { Owed (words_at W.Width.wide (byte_in self.old.bytes.now) offset.0 count) self.old self.new }
-    {
-        for i in 0..count {
-            let word = self.look::<W>(WordOffset(offset.0 + i as u32));
-            self.owe(word);
-        }
-    }
-
     /// Takes a command: owes the words of a read, or stores the beat of a write.
     fn accept<W: Width>(&mut self, command: Command)
-        requires kept { (Fit self.old.words) × ((Fit self.old.bursts) × (InPlace self.old.waits)) }
-        requires ready { (length self.old.bytes.now ≤ 32768) × (Ready W.Width.wide self.old command Take) }
-        ensures { Acted W.Width.wide self.old command Take self.new }
+        requires { Ready W.BYTES self.old command Take }
+        ensures { Acted W.BYTES self.old command Take self.new }
     {
         self.waits.advance();
         match command {
             Command::Idle => {}
             Command::Read { offset, count } => {
-                self.owe_words::<W>(offset, count);
-                owe_burst(&mut self.bursts, count);
+                owe_words::<W>(&mut self.words, &self.bytes, offset, count);
+                self.bursts.push(ReadBurst { left: count });
             }
             Command::Write {
                 offset,
@@ -92,20 +58,18 @@ impl<'a> Parts<'a> {
                 ..
             } => {
                 let place = beat_place(self.plain.burst, offset);
-                store_word::<W>(self.bytes, place, mask, word);
+                self.bytes.store_word::<W>(place, mask, word);
             }
         }
     }
 
     /// Acts on a command as it was answered.
     pub(crate) fn act<W: Width>(&mut self, command: Command, reply: Reply)
-        requires kept { (Fit self.old.words) × ((Fit self.old.bursts) × (InPlace self.old.waits)) }
-        requires ready { (length self.old.bytes.now ≤ 32768) × (Ready W.Width.wide self.old command reply) }
-        ensures { Acted W.Width.wide self.old command reply self.new }
+        requires { Ready W.BYTES self.old command reply }
+        ensures { Acted W.BYTES self.old command reply self.new }
     {
         match reply {
-            Reply::Idle => {}
-            Reply::Wait => {}
+            Reply::Idle | Reply::Wait => {}
             Reply::Take => self.accept::<W>(command),
         }
     }

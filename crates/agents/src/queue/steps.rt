@@ -1,23 +1,16 @@
 //! What a queue does: one item in at the end, one out at the front, a look at the first.
-ghost use Rattle.std.specs.Prelude.{◌≡◌, ◌<◌, [], length, slice_index_or};
+ghost use Rattle.std.specs.Prelude.{◌≡◌, ◌<◌, [], ◌∷◌, ◌++◌, length};
 ghost use Rattle.agents.specs.Items.{first_item, start_of, end_of};
-ghost use Rattle.agents.specs.Queue.{items, room, Fit, Put, Taken, Replaced};
+ghost use Rattle.agents.specs.Queue.{items, room, Put, Taken, Replaced};
 
 use crate::queue::Ring;
 use port::calls::Refusal;
 
-/// The item at a place.
-fn item_at<T: Copy>(slots: &[T], place: usize) -> T
-    requires { place < length slots.now }
-    ensures { result ≡ slice_index_or slots.now place result }
-{
-    slots[place]
-}
-
 impl<'a, T: Copy> Ring<'a, T> {
     /// An empty queue over `slots`.
+    #[tactic(auto, using(crate::proofs::Around::around_none))]
     pub fn over(slots: &'a mut [T]) -> Ring<'a, T>
-        ensures { (items result ≡ []) × ((Fit result) × (room result ≡ length slots.old)) }
+        ensures { (items result ≡ []) × (room result ≡ length slots.old) }
     {
         Ring {
             slots,
@@ -27,12 +20,11 @@ impl<'a, T: Copy> Ring<'a, T> {
     }
 
     /// How many items it holds.
+    #[tactic(auto, using(crate::proofs::Around::length_around))]
     pub fn len(&self) -> usize
-        requires { Fit self.now }
         ensures { result ≡ length (items self.now) }
     {
-        let Ring { count, .. } = self;
-        *count
+        self.count
     }
 
     /// Where the first item stands.
@@ -48,7 +40,6 @@ impl<'a, T: Copy> Ring<'a, T> {
 
     /// Where the next item goes.
     fn end(&self) -> usize
-        requires { Fit self.now }
         ensures { result ≡ end_of (room self.now) self.now.head self.now.count }
     {
         let left = self.slots.len() - self.head;
@@ -59,23 +50,32 @@ impl<'a, T: Copy> Ring<'a, T> {
         }
     }
 
-    /// One item more at the end; a full queue refuses it.
-    pub fn put(&mut self, item: T) -> Result<(), Refusal>
-        requires { Fit self.old }
-        ensures { Put item self.old self.new result }
+    /// One item more at the end, where there is room.
+    #[tactic(auto, using(crate::proofs::Around::length_around, crate::proofs::Around::end_below))]
+    pub(crate) fn push(&mut self, item: T)
+        requires { length (items self.old) < room self.old }
+        ensures { (items self.new ≡ items self.old ++ (item ∷ [])) × (room self.new ≡ room self.old) }
     {
-        if self.count >= self.slots.len() {
-            return Err(Refusal::NoPlace);
-        }
         let place = self.end();
         self.slots[place] = item;
         self.count += 1;
+    }
+
+    /// One item more at the end; a full queue refuses it.
+    #[tactic(auto, using(crate::proofs::Around::length_around))]
+    pub fn put(&mut self, item: T) -> Result<(), Refusal>
+        ensures { Put item self.old self.new result }
+    {
+        if self.len() >= self.slots.len() {
+            return Err(Refusal::NoPlace);
+        }
+        self.push(item);
         Ok(())
     }
 
     /// The first item, out of the queue.
+    #[tactic(auto, using(crate::proofs::Around::take_start, crate::proofs::Around::around_none))]
     pub fn take(&mut self) -> Option<T>
-        requires { Fit self.old }
         ensures { Taken self.old self.new result }
     {
         if self.count == 0 {
@@ -89,20 +89,19 @@ impl<'a, T: Copy> Ring<'a, T> {
     }
 
     /// The first item, which stays.
+    #[tactic(auto, using(crate::proofs::Around::take_start, crate::proofs::Around::around_none))]
     pub(crate) fn first(&self) -> Option<T>
-        requires { Fit self.now }
         ensures { result ≡ first_item (items self.now) }
     {
         if self.count == 0 {
             return None;
         }
         let place = self.start();
-        Some(item_at(self.slots, place))
+        Some(self.slots[place])
     }
 
     /// Another item in the place of the first; nothing where there is none.
     pub(crate) fn replace_first(&mut self, item: T)
-        requires { Fit self.old }
         ensures { Replaced item self.old self.new }
     {
         if self.count > 0 {

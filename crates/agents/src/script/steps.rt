@@ -8,11 +8,7 @@ use crate::script::Script;
 pub fn greatest(values: &[u8]) -> u8
     ensures { result ≡ greatest_of values.now }
 {
-    let mut most = 0;
-    for value in values {
-        most = if *value > most { *value } else { most };
-    }
-    most
+    values.iter().copied().max().unwrap_or(0)
 }
 
 impl<'a> Script<'a> {
@@ -34,6 +30,7 @@ impl<'a> Script<'a> {
     /// Goes on to the next value.
     pub fn advance(&mut self)
         requires { InPlace self.old }
+        ensures placed { InPlace self.new }
         ensures same { listed self.new ≡ listed self.old }
         ensures goes { place_of self.new ≡ next_place (length (listed self.old)) (place_of self.old) }
     {

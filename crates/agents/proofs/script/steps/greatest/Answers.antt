@@ -1,17 +1,12 @@
-use Rattle.std.proofs.Common.{ap, ◌∙◌, arith, take_all}
-use Rattle.agents.specs.Scripts.{greatest_of}
-use Rattle.agents.proofs.Greatest.{greatest_more}
+use Rattle.std.proofs.Common.{◌≡◌, ap, ◌∙◌, unwrap_or}
+use Rattle.std.proofs.lemmas.Iterator.{YieldsList-from_slice}
+use Rattle.std.proofs.lemmas.Iterator.Consumers.{YieldsList-from_copied, reduce_from_yields_List}
+use Rattle.std.specs.Ordering.{nat_cmp, max_by_ordering}
+use Rattle.agents.proofs.Greatest.{greatest_max}
 use Rattle.agents.proofs.script.steps.greatest.Goals as goal
-use Rattle.agents.proofs.script.steps.greatest.Goals.{then-value-most, else-value-most}
-
-pub loop-value-preserved : goal.loop-value-preserved
-loop-value-preserved c =
-    let e = greatest_more c.args.values.now c.loop-value.value-index c.loop-value.most c.loop-value-test.true c.loop-value.invariant in
-    elim c.if-value-most.branch [
-      | then-value-most w ↦ omega (arith, e, w.most-is, w.if-value-most.true)
-      | else-value-most w ↦ omega (arith, e, w.most-is, w.if-value-most.false)
-    ]
 
 pub returns : goal.returns
 returns c =
-    c.loop-value.invariant ∙ ap greatest_of (take_all c.loop-value.value-index c.args.values.now c.loop-value-test.false)
+    let xs = c.args.values.now in
+    let e = reduce_from_yields_List (λ p z. max_by_ordering (nat_cmp p z) p z) _ c.max.result c.max.ensures.ran (YieldsList-from_copied (YieldsList-from_slice xs cc)) in
+    c.unwrap_or.ensures ∙ (ap (λ o. unwrap_or o 0) e ∙ greatest_max xs)
