@@ -1,3 +1,2 @@
 mod Finals
-mod Plays
 mod Sequences

@@ -1,9 +1,9 @@
 -- The law over the commands of a session, one command after the other.
-use Rattle.std.proofs.Common.{◌≡◌, ℕ, zero, suc, ◌+◌, ◌*◌, ◌<◌, ◌≤◌, Bool, true, false, cond, eqb, List, [], ◌∷◌, ◌++◌, length, get_or, take, drop, set, Some, None, sym, refl, ap, ◌∙◌, subst, add-one, arith}
-use Rattle.std.proofs.lemmas.List.{at_drop_all, at_drop_more, length_push, length-take-le, take_more_set}
+use Rattle.std.proofs.Common.{◌≡◌, ℕ, zero, suc, ◌+◌, ◌*◌, ◌<◌, Bool, true, false, cond, eqb, List, [], ◌∷◌, ◌++◌, length, take, set, Some, None, sym, refl, ap, ◌∙◌, subst, add-one, arith}
+use Rattle.std.proofs.lemmas.List.{length_push, length-take-le, take_more_set}
 use Rattle.port.specs.Book.{Event, book}
 use Rattle.port.specs.Legal.{Legal}
-use Rattle.port.specs.Runs.{Served, was_taken}
+use Rattle.port.specs.Runs.{Served}
 use Rattle.port.specs.State.{State}
 use Rattle.port.specs.Answers.{Answer, Clocked, Refused}
 use Rattle.port.specs.declared.numbers.Numbers.{Numbers}
@@ -11,7 +11,7 @@ use Rattle.port.proofs.Laws.{served_more}
 use Rattle.files.specs.Bytes.{bytes_at}
 use Rattle.tools.specs.Calls.{Played, command_in}
 use Rattle.files.specs.Fields.{command_record, command_fields_in}
-use Rattle.tools.specs.Plays.{AllRightly, Rightly, SessionRan, after_command, after_commands, commands_in, takes_in}
+use Rattle.tools.specs.Plays.{AllRightly, Rightly, SessionRan, after_command, after_commands, commands_in}
 use Rattle.files.specs.declared.records.CommandFields.{CommandFields}
 
 length_commands : (xs : List ℕ) (n : ℕ) → length (commands_in xs n) ≡ n
@@ -88,17 +88,3 @@ fields_are ys zs f e found =
     let here : (t : Bool) → Some f ≡ cond t (Some (command_record ys)) None → f ≡ command_record ys =
     λ t. elim t as (λ s. Some f ≡ cond s (Some (command_record ys)) None → f ≡ command_record ys) [ true ↦ λ q. cc | false ↦ λ q. cc ] in
     here (eqb (length ys) 16) found ∙ ap command_record e
-
--- Taken commands --------------------------------------------------------------------
-
-pub count_more : (bs : List Answer) (i : ℕ) (d : Answer) (count : ℕ) (t : Bool) (more : ℕ) → i < length bs → t ≡ was_taken (get_or bs i d) → more ≡ count + cond t 1 0 → count + takes_in (drop i bs) ≡ takes_in bs →
-    more + takes_in (drop (i + 1) bs) ≡ takes_in bs
-count_more bs i d count t more lt told step so_far =
-    let cut : takes_in (drop i bs) ≡ cond (was_taken (get_or bs i d)) 1 0 + takes_in (drop (i + 1) bs) = at_drop_more takes_in bs i d lt in
-    let same : cond {A = ℕ} t 1 0 ≡ cond (was_taken (get_or bs i d)) 1 0 = ap (λ (s : Bool). cond {A = ℕ} s 1 0) told in
-    omega arith
-
-pub count_all : (bs : List Answer) (i count : ℕ) → length bs ≤ i → count + takes_in (drop i bs) ≡ takes_in bs → count ≡ takes_in bs
-count_all bs i count all so_far =
-    let none : takes_in (drop i bs) ≡ 0 = at_drop_all takes_in bs i all in
-    omega arith

@@ -1,5 +1,5 @@
 -- The law over the commands of a session that are put to a port.
-use Rattle.std.specs.Prelude.{◌≡◌, ℕ, zero, suc, ◌+◌, ◌*◌, cond, List, [], ◌∷◌, ◌++◌, Some, None}
+use Rattle.std.specs.Prelude.{◌≡◌, ℕ, zero, suc, ◌*◌, List, [], ◌∷◌, ◌++◌, count_by, Some, None}
 use Rattle.port.specs.Book.{Event, book}
 use Rattle.port.specs.Refusals.{number_of}
 use Rattle.port.specs.Runs.{Served, was_taken}
@@ -50,5 +50,4 @@ SessionRan n σ fs bs τ =
 
 -- how many commands were taken, each beat counted
 abbrev pub takes_in : List Answer → ℕ
-takes_in [] = 0
-takes_in (b ∷ bs) = cond (was_taken b) 1 0 + takes_in bs
+takes_in bs = count_by was_taken bs

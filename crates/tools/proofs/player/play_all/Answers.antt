@@ -20,17 +20,16 @@ loop-i-preserved g c =
     let n = g.P.Port.fixed c.args.port.now in
     let τ = g.P.Port.state c.loop-i.port in
     let υ = g.P.Port.state c.play_one.new.port in
-    let same = c.loop-i.invariant.1 in
-    let legal = subst (λ (m : Numbers). Legal m τ) same (g.P.Port.legal c.loop-i.port c.loop-i.invariant.0) in
+    let same = c.loop-i.invariant.0 in
+    let legal = subst (λ (m : Numbers). Legal m τ) same (g.met.P.Port.legal c.loop-i.port) in
     let fields : c.in-Some-command_fields.fields ≡ command_record (bytes_at xs (16 * i) 16) =
     fields_are c.stretch.result.bytes.now (bytes_at xs (16 * i) 16) c.in-Some-command_fields.fields
     (ap (λ (t : Stretch). t.bytes.now) c.stretch.ensures ∙ c.in-Some.ensures.1.holds) c.in-Some-command_fields.ensures in
     let played = subst (λ (m : Numbers). Played m τ c.in-Some-command_fields.fields b υ) same c.play_one.ensures.plays in
     let plays = subst (λ (f : CommandFields). Played n τ f b υ) fields played in (
-      c.play_one.ensures.sound,
       c.play_one.ensures.fixed ∙ same,
-      more_ran n (g.P.Port.state c.args.port.now) xs bs i τ b υ (omega arith) legal c.loop-i.invariant.2 plays,
-      drop-set-lt (i + 1) bs i b (omega arith) ∙ sym (drop-drop 1 i bs) ∙ ap (drop 1) c.loop-i.invariant.3 ∙ drop-drop 1 i c.args.answers.now,
+      more_ran n (g.P.Port.state c.args.port.now) xs bs i τ b υ (omega arith) legal c.loop-i.invariant.1 plays,
+      drop-set-lt (i + 1) bs i b (omega arith) ∙ sym (drop-drop 1 i bs) ∙ ap (drop 1) c.loop-i.invariant.2 ∙ drop-drop 1 i c.args.answers.now,
     )
 
 pub returns : goal.returns
@@ -44,9 +43,8 @@ returns g c =
     record {
       ran = (
         omega arith,
-        subst (λ j. SessionRan n σ (commands_in xs j) bs τ) all (all_ran n σ xs bs c.loop-i.i τ c.loop-i.invariant.2),
-        subst (λ j. drop j bs ≡ drop j c.args.answers.now) all c.loop-i.invariant.3,
+        subst (λ j. SessionRan n σ (commands_in xs j) bs τ) all (all_ran n σ xs bs c.loop-i.i τ c.loop-i.invariant.1),
+        subst (λ j. drop j bs ≡ drop j c.args.answers.now) all c.loop-i.invariant.2,
       );
-      sound = c.loop-i.invariant.0;
-      fixed = c.loop-i.invariant.1;
+      fixed = c.loop-i.invariant.0;
     }
