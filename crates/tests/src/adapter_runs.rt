@@ -1,8 +1,9 @@
 //! Adapters, and two of them over one another, on scripted memories. The answers that are expected follow from the rules.
-use crate::runs::{BLANK, read, same, write};
+use crate::runs::{BLANK, BYTES, read, same, write};
 use adapters::adapter::{Adapter, narrower, splitter, widener};
 use agents::memory::{ReadBurst, ScriptedMemory, Storage};
 use port::calls::{Answer, Command, Refusal, Reply, Word};
+use port::numbers::Limits;
 use port::ports::Port;
 use port::run::run;
 use port::width::{W1, W2, W4, W8, Width};
@@ -11,53 +12,23 @@ use std::test::Fail;
 
 const IDLE: Command = Command::Idle;
 
-const NONE: Answer = Answer::Clocked(Reply::Idle, None);
+const NONE: Answer = Ok((Reply::Idle, None));
 
-const WAIT: Answer = Answer::Clocked(Reply::Wait, None);
+const WAIT: Answer = Ok((Reply::Wait, None));
 
-const TAKE: Answer = Answer::Clocked(Reply::Take, None);
+const TAKE: Answer = Ok((Reply::Take, None));
 
 fn some(word: Word) -> Answer {
-    Answer::Clocked(Reply::Idle, Some(word))
+    Ok((Reply::Idle, Some(word)))
 }
 
-fn on_narrower<W: Width, P: Port + Drop>(
-    below: P,
-    pending_limit: u8,
+/// Runs the calls on an adapter, if it was built.
+fn run_on<P: Port + Drop, W: Width>(
+    built: Result<Adapter<P, W>, (Refusal, P)>,
     calls: &[Command],
     answers: &mut [Answer],
-) -> Result<(), Refusal>
-    requires { P.Port.sound below }
-{
-    match narrower::<W, P>(below, pending_limit) {
-        Ok(mut top) => run(&mut top, calls, answers),
-        Err((refusal, _)) => Err(refusal),
-    }
-}
-
-fn on_splitter<W: Width, P: Port + Drop>(
-    below: P,
-    burst_limit: u8,
-    calls: &[Command],
-    answers: &mut [Answer],
-) -> Result<(), Refusal>
-    requires { P.Port.sound below }
-{
-    match splitter::<W, P>(below, burst_limit, 1) {
-        Ok(mut top) => run(&mut top, calls, answers),
-        Err((refusal, _)) => Err(refusal),
-    }
-}
-
-fn on_widener<W: Width, P: Port + Drop>(
-    below: P,
-    burst_limit: u8,
-    calls: &[Command],
-    answers: &mut [Answer],
-) -> Result<(), Refusal>
-    requires { P.Port.sound below }
-{
-    match widener::<W, P>(below, burst_limit, 2) {
+) -> Result<(), Refusal> {
+    match built {
         Ok(mut top) => run(&mut top, calls, answers),
         Err((refusal, _)) => Err(refusal),
     }
@@ -66,14 +37,12 @@ fn on_widener<W: Width, P: Port + Drop>(
 /// A narrower to words of the width `W`, over a splitter with words of the width `V`.
 fn on_narrowed_splitter<V: Width, W: Width, P: Port + Drop>(
     below: P,
-    burst_limit: u8,
+    burst: u8,
     calls: &[Command],
     answers: &mut [Answer],
-) -> Result<(), Refusal>
-    requires { P.Port.sound below }
-{
-    match splitter::<V, P>(below, burst_limit, 2) {
-        Ok(middle) => on_narrower::<W, Adapter<P, V>>(middle, 2, calls, answers),
+) -> Result<(), Refusal> {
+    match splitter::<V, P>(below, Limits { burst, pending: 2 }) {
+        Ok(middle) => run_on(narrower::<W, Adapter<P, V>>(middle, 2), calls, answers),
         Err((refusal, _)) => Err(refusal),
     }
 }
@@ -85,37 +54,43 @@ fn on_split_widener<W: Width, P: Port + Drop>(
     splitter_burst: u8,
     calls: &[Command],
     answers: &mut [Answer],
-) -> Result<(), Refusal>
-    requires { P.Port.sound below }
-{
-    match widener::<W, P>(below, widener_burst, 2) {
-        Ok(middle) => on_splitter::<W, Adapter<P, W>>(middle, splitter_burst, calls, answers),
+) -> Result<(), Refusal> {
+    let limits = Limits {
+        burst: widener_burst,
+        pending: 2,
+    };
+    match widener::<W, P>(below, limits) {
+        Ok(middle) => {
+            let limits = Limits {
+                burst: splitter_burst,
+                pending: 1,
+            };
+            run_on(splitter::<W, Adapter<P, W>>(middle, limits), calls, answers)
+        }
         Err((refusal, _)) => Err(refusal),
     }
 }
 
-/// A narrower over a port that has been put a command.
-fn on_busy<W: Width, P: Port + Drop>(mut below: P, command: Command) -> Result<(), Refusal>
-    requires { P.Port.sound below }
-{
-    let _ = below.clock(command);
-    on_narrower::<W, P>(below, 1, &[], &mut [])
-}
-
 /// Builds a memory of the bytes 0 to 15 that owes one read burst at the most, with one script for waits and for gaps, and
-/// calls a function on it. (A function that is generic in the width could not hand the memory on.)
+/// goes on with it. (The check covers no closure that takes a memory, and no function that returns one over its arrays.)
 macro_rules! with_memory {
-    ($width:ty, $burst_limit:expr, $script:expr, $function:ident<$($host:ty),+>($($given:expr),*)) => {{
-        let mut bytes = *b"\x00\x01\x02\x03\x04\x05\x06\x07\x08\x09\x0a\x0b\x0c\x0d\x0e\x0f";
+    ($width:ty, $burst:expr, $script:expr, $memory:ident => $rest:expr) => {{
+        let mut bytes = BYTES;
         let mut words = [0; 64];
         let mut bursts = [ReadBurst { left: 0 }; 1];
         let storage =
             Storage { bytes: &mut bytes, waits: $script, gaps: $script, words: &mut words, bursts: &mut bursts };
-        match ScriptedMemory::<$width>::new(storage, $burst_limit, 1) {
-            Ok(memory) => $function::<$($host),+, ScriptedMemory<$width>>(memory, $($given),*),
+        match ScriptedMemory::<$width>::new(storage, Limits { burst: $burst, pending: 1 }) {
+            Ok($memory) => $rest,
             Err((refusal, _)) => Err(refusal),
         }
     }};
+}
+
+/// A narrower over a port that has been put a command.
+fn on_busy<W: Width, P: Port + Drop>(mut below: P, command: Command) -> Result<(), Refusal> {
+    let _ = below.clock(command);
+    run_on(narrower::<W, P>(below, 1), &[], &mut [])
 }
 
 fn refused(rt: &impl Abort, outcome: Result<(), Refusal>, wanted: Refusal) -> Result<(), Fail> {
@@ -147,7 +122,9 @@ fn narrows(rt: HostRuntime) -> Result<(), Fail> {
         IDLE,
     ];
     let mut answers = [BLANK; 12];
-    assert!(rt; with_memory!(W2, 8, &[1], on_narrower<W4>(2, &calls, &mut answers)).is_ok());
+    assert!(rt;
+        with_memory!(W2, 8, &[1], memory => run_on(narrower::<W4, _>(memory, 2), &calls, &mut answers)).is_ok()
+    );
     same(
         &rt,
         &answers,
@@ -176,7 +153,9 @@ fn narrows(rt: HostRuntime) -> Result<(), Fail> {
         read(2, 1),
     ];
     let mut answers = [BLANK; 7];
-    assert!(rt; with_memory!(W1, 8, &[0], on_narrower<W4>(1, &calls, &mut answers)).is_ok());
+    assert!(rt;
+        with_memory!(W1, 8, &[0], memory => run_on(narrower::<W4, _>(memory, 1), &calls, &mut answers)).is_ok()
+    );
     same(
         &rt,
         &answers,
@@ -186,14 +165,16 @@ fn narrows(rt: HostRuntime) -> Result<(), Fail> {
             WAIT,
             WAIT,
             WAIT,
-            Answer::Clocked(Reply::Wait, Some(0x07060504)),
+            Ok((Reply::Wait, Some(0x07060504))),
             TAKE,
         ],
     )?;
     let mut calls = [IDLE; 10];
     calls[0] = read(1, 1);
     let mut answers = [BLANK; 10];
-    assert!(rt; with_memory!(W1, 8, &[0], on_narrower<W8>(1, &calls, &mut answers)).is_ok());
+    assert!(rt;
+        with_memory!(W1, 8, &[0], memory => run_on(narrower::<W8, _>(memory, 1), &calls, &mut answers)).is_ok()
+    );
     let mut expected = [NONE; 10];
     expected[0] = TAKE;
     expected[9] = some(0x0F0E0D0C0B0A0908);
@@ -215,7 +196,20 @@ fn widens(rt: HostRuntime) -> Result<(), Fail> {
         IDLE,
     ];
     let mut answers = [BLANK; 9];
-    assert!(rt; with_memory!(W8, 2, &[0], on_widener<W4>(8, &calls, &mut answers)).is_ok());
+    assert!(rt;
+        with_memory!(W8, 2, &[0], memory => run_on(
+            widener::<W4, _>(
+                memory,
+                Limits {
+                    burst: 8,
+                    pending: 2
+                }
+            ),
+            &calls,
+            &mut answers
+        ))
+        .is_ok()
+    );
     same(
         &rt,
         &answers,
@@ -233,7 +227,20 @@ fn widens(rt: HostRuntime) -> Result<(), Fail> {
     )?;
     let calls = [read(3, 2), IDLE, IDLE, IDLE, IDLE];
     let mut answers = [BLANK; 5];
-    assert!(rt; with_memory!(W8, 2, &[0], on_widener<W2>(8, &calls, &mut answers)).is_ok());
+    assert!(rt;
+        with_memory!(W8, 2, &[0], memory => run_on(
+            widener::<W2, _>(
+                memory,
+                Limits {
+                    burst: 8,
+                    pending: 2
+                }
+            ),
+            &calls,
+            &mut answers
+        ))
+        .is_ok()
+    );
     same(
         &rt,
         &answers,
@@ -249,7 +256,20 @@ fn widens(rt: HostRuntime) -> Result<(), Fail> {
         IDLE,
     ];
     let mut answers = [BLANK; 7];
-    assert!(rt; with_memory!(W8, 2, &[0], on_widener<W1>(8, &calls, &mut answers)).is_ok());
+    assert!(rt;
+        with_memory!(W8, 2, &[0], memory => run_on(
+            widener::<W1, _>(
+                memory,
+                Limits {
+                    burst: 8,
+                    pending: 2
+                }
+            ),
+            &calls,
+            &mut answers
+        ))
+        .is_ok()
+    );
     same(
         &rt,
         &answers,
@@ -278,7 +298,20 @@ fn splits(rt: HostRuntime) -> Result<(), Fail> {
         IDLE,
     ];
     let mut answers = [BLANK; 15];
-    assert!(rt; with_memory!(W1, 2, &[0], on_splitter<W1>(8, &calls, &mut answers)).is_ok());
+    assert!(rt;
+        with_memory!(W1, 2, &[0], memory => run_on(
+            splitter::<W1, _>(
+                memory,
+                Limits {
+                    burst: 8,
+                    pending: 1
+                }
+            ),
+            &calls,
+            &mut answers
+        ))
+        .is_ok()
+    );
     same(
         &rt,
         &answers,
@@ -320,14 +353,7 @@ fn narrows_over_a_splitter(rt: HostRuntime) -> Result<(), Fail> {
     ];
     let mut answers = [BLANK; 12];
     assert!(rt;
-        with_memory!(
-            W2,
-            3,
-            &[0],
-            on_narrowed_splitter < W2,
-            W4 > (4, &calls, &mut answers)
-        )
-        .is_ok()
+        with_memory!(W2, 3, &[0], memory => on_narrowed_splitter::<W2, W4, _>(memory, 4, &calls, &mut answers)).is_ok()
     );
     same(
         &rt,
@@ -369,7 +395,7 @@ fn splits_over_a_widener(rt: HostRuntime) -> Result<(), Fail> {
     ];
     let mut answers = [BLANK; 14];
     assert!(rt;
-        with_memory!(W8, 2, &[0], on_split_widener<W4>(2, 8, &calls, &mut answers)).is_ok()
+        with_memory!(W8, 2, &[0], memory => on_split_widener::<W4, _>(memory, 2, 8, &calls, &mut answers)).is_ok()
     );
     same(
         &rt,
@@ -399,27 +425,37 @@ fn splits_over_a_widener(rt: HostRuntime) -> Result<(), Fail> {
 fn refuses_to_adapt(rt: HostRuntime) -> Result<(), Fail> {
     refused(
         &rt,
-        with_memory!(W4, 8, &[0], on_narrower<W4>(1, &[], &mut [])),
+        with_memory!(W4, 8, &[0], memory => run_on(narrower::<W4, _>(memory, 1), &[], &mut [])),
         Refusal::OutOfRange,
     )?;
     refused(
         &rt,
-        with_memory!(W4, 8, &[0], on_widener<W2>(65, &[], &mut [])),
+        with_memory!(W4, 8, &[0], memory => run_on(
+            widener::<W2, _>(
+                memory,
+                Limits {
+                    burst: 65,
+                    pending: 2,
+                },
+            ),
+            &[],
+            &mut [],
+        )),
         Refusal::OutOfRange,
     )?;
     refused(
         &rt,
-        with_memory!(W1, 7, &[0], on_narrower<W8>(1, &[], &mut [])),
+        with_memory!(W1, 7, &[0], memory => run_on(narrower::<W8, _>(memory, 1), &[], &mut [])),
         Refusal::PortBelow,
     )?;
     refused(
         &rt,
-        with_memory!(W4, 8, &[1], on_busy<W8>(read(0, 1))),
+        with_memory!(W4, 8, &[1], memory => on_busy::<W8, _>(memory, read(0, 1))),
         Refusal::PortBelow,
     )?;
     refused(
         &rt,
-        with_memory!(W8, 64, &[255], on_split_widener<W4>(64, 64, &[], &mut [])),
+        with_memory!(W8, 64, &[255], memory => on_split_widener::<W4, _>(memory, 64, 64, &[], &mut [])),
         Refusal::Bound,
     )
 }

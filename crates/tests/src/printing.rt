@@ -1,20 +1,20 @@
 //! The lines that the player prints.
 use files::faults::{Fault, FileFault};
-use port::calls::{Answer, Refusal, Reply};
+use port::calls::{Refusal, Reply};
 use std::test::Fail;
 use tools::lines::{CallLine, EndLine};
 
 #[test]
 fn lines(rt: HostRuntime) -> Result<(), Fail> {
     let heap = rt.alloc();
-    let answer = Answer::Clocked(Reply::Wait, Some(0xAB));
+    let answer = Ok((Reply::Wait, Some(0xAB)));
     let wait = CallLine {
         index: 12,
         answer,
         width: 4,
     };
     assert!(rt; wait.to_string(heap)?.as_str() == "12 wait 000000ab");
-    let answer = Answer::Refused(Refusal::Held);
+    let answer = Err(Refusal::Held);
     let refused = CallLine {
         index: 0,
         answer,

@@ -2,8 +2,9 @@
 use agents::memory::{ReadBurst, ScriptedMemory, Storage};
 use port::addresses::WordOffset;
 use port::calls::{Answer, Command, Refusal, Reply, Word};
+use port::numbers::Limits;
 use port::run::run;
-use port::width::{W1, W2, W8};
+use port::width::{W1, W2, W8, Width};
 use std::process::Abort;
 use std::test::Fail;
 
@@ -23,33 +24,40 @@ pub(crate) fn write(offset: u32, count: u16, mask: u8, word: Word) -> Command {
     }
 }
 
-/// Builds a memory over storage and runs a list of calls on it. (A function
-/// that is generic in the width could not hand the memory on.)
-macro_rules! run_over {
-    ($width:ty, $bytes:expr, $burst_limit:expr, $waits:expr, $gaps:expr, $calls:expr, $answers:expr) => {{
-        let mut words = [0; 4];
-        let mut bursts = [ReadBurst { left: 0 }; 1];
-        let storage =
-            Storage { bytes: $bytes, waits: $waits, gaps: $gaps, words: &mut words, bursts: &mut bursts };
-        match ScriptedMemory::<$width>::new(storage, $burst_limit, 1) {
-            Ok(mut memory) => run(&mut memory, $calls, $answers),
-            Err((refusal, _)) => Err(refusal),
-        }
-    }};
+/// Builds a memory over storage and runs a list of calls on it.
+fn run_over<W: Width>(
+    bytes: &mut [u8],
+    burst: u8,
+    waits: &[u8],
+    gaps: &[u8],
+    calls: &[Command],
+    answers: &mut [Answer],
+) -> Result<(), Refusal> {
+    let mut words = [0; 4];
+    let mut bursts = [ReadBurst { left: 0 }; 1];
+    let storage = Storage {
+        bytes,
+        waits,
+        gaps,
+        words: &mut words,
+        bursts: &mut bursts,
+    };
+    match ScriptedMemory::<W>::new(storage, Limits { burst, pending: 1 }) {
+        Ok(mut memory) => run(&mut memory, calls, answers),
+        Err((refusal, _)) => Err(refusal),
+    }
 }
 
 /// The bytes 0 to 15.
-const BYTES: [u8; 16] = *b"\x00\x01\x02\x03\x04\x05\x06\x07\x08\x09\x0a\x0b\x0c\x0d\x0e\x0f";
+pub(crate) const BYTES: [u8; 16] =
+    *b"\x00\x01\x02\x03\x04\x05\x06\x07\x08\x09\x0a\x0b\x0c\x0d\x0e\x0f";
 
 pub(crate) fn same(rt: &impl Abort, answers: &[Answer], expected: &[Answer]) -> Result<(), Fail> {
-    assert_eq!(rt; answers.len(), expected.len());
-    for (answer, wanted) in answers.iter().zip(expected.iter()) {
-        assert_eq!(rt; *answer, *wanted);
-    }
+    assert_eq!(rt; answers, expected);
     Ok(())
 }
 
-pub(crate) const BLANK: Answer = Answer::Refused(Refusal::OutOfRange);
+pub(crate) const BLANK: Answer = Err(Refusal::OutOfRange);
 
 #[test]
 fn refuses_in_order(rt: HostRuntime) -> Result<(), Fail> {
@@ -69,23 +77,23 @@ fn refuses_in_order(rt: HostRuntime) -> Result<(), Fail> {
     ];
     let mut bytes = BYTES;
     let mut answers = [BLANK; 12];
-    assert!(rt; run_over!(W2, &mut bytes, 2, &[0], &[0], &calls, &mut answers).is_ok());
+    assert!(rt; run_over::<W2>(&mut bytes, 2, &[0], &[0], &calls, &mut answers).is_ok());
     same(
         &rt,
         &answers,
         &[
-            Answer::Refused(Refusal::Count),
-            Answer::Refused(Refusal::PastEnd),
-            Answer::Refused(Refusal::Count),
-            Answer::Refused(Refusal::PastEnd),
-            Answer::Refused(Refusal::Lanes),
-            Answer::Refused(Refusal::Lanes),
-            Answer::Clocked(Reply::Take, None),
-            Answer::Refused(Refusal::InBurst),
-            Answer::Clocked(Reply::Take, None),
-            Answer::Clocked(Reply::Take, None),
-            Answer::Clocked(Reply::Idle, Some(0x1234)),
-            Answer::Clocked(Reply::Idle, Some(0xAB02)),
+            Err(Refusal::Count),
+            Err(Refusal::PastEnd),
+            Err(Refusal::Count),
+            Err(Refusal::PastEnd),
+            Err(Refusal::Lanes),
+            Err(Refusal::Lanes),
+            Ok((Reply::Take, None)),
+            Err(Refusal::InBurst),
+            Ok((Reply::Take, None)),
+            Ok((Reply::Take, None)),
+            Ok((Reply::Idle, Some(0x1234))),
+            Ok((Reply::Idle, Some(0xAB02))),
         ],
     )
 }
@@ -107,22 +115,22 @@ fn holds_what_waits(rt: HostRuntime) -> Result<(), Fail> {
     ];
     let mut bytes = BYTES;
     let mut answers = [BLANK; 11];
-    assert!(rt; run_over!(W8, &mut bytes, 2, &[1], &[2], &calls, &mut answers).is_ok());
+    assert!(rt; run_over::<W8>(&mut bytes, 2, &[1], &[2], &calls, &mut answers).is_ok());
     same(
         &rt,
         &answers,
         &[
-            Answer::Clocked(Reply::Wait, None),
-            Answer::Refused(Refusal::Held),
-            Answer::Refused(Refusal::Held),
-            Answer::Clocked(Reply::Take, None),
-            Answer::Clocked(Reply::Wait, None),
-            Answer::Clocked(Reply::Take, None),
-            Answer::Clocked(Reply::Wait, None),
-            Answer::Clocked(Reply::Take, None),
-            Answer::Clocked(Reply::Idle, None),
-            Answer::Clocked(Reply::Idle, None),
-            Answer::Clocked(Reply::Idle, Some(0x1106050403020188)),
+            Ok((Reply::Wait, None)),
+            Err(Refusal::Held),
+            Err(Refusal::Held),
+            Ok((Reply::Take, None)),
+            Ok((Reply::Wait, None)),
+            Ok((Reply::Take, None)),
+            Ok((Reply::Wait, None)),
+            Ok((Reply::Take, None)),
+            Ok((Reply::Idle, None)),
+            Ok((Reply::Idle, None)),
+            Ok((Reply::Idle, Some(0x1106050403020188))),
         ],
     )
 }
@@ -139,16 +147,16 @@ fn full_reads_wait(rt: HostRuntime) -> Result<(), Fail> {
     ];
     let mut bytes = BYTES;
     let mut answers = [BLANK; 5];
-    assert!(rt; run_over!(W1, &mut bytes, 2, &[0], &[0], &calls, &mut answers).is_ok());
+    assert!(rt; run_over::<W1>(&mut bytes, 2, &[0], &[0], &calls, &mut answers).is_ok());
     same(
         &rt,
         &answers,
         &[
-            Answer::Clocked(Reply::Take, None),
-            Answer::Clocked(Reply::Wait, Some(0)),
-            Answer::Clocked(Reply::Wait, Some(1)),
-            Answer::Clocked(Reply::Take, None),
-            Answer::Clocked(Reply::Idle, Some(15)),
+            Ok((Reply::Take, None)),
+            Ok((Reply::Wait, Some(0))),
+            Ok((Reply::Wait, Some(1))),
+            Ok((Reply::Take, None)),
+            Ok((Reply::Idle, Some(15))),
         ],
     )
 }
@@ -157,14 +165,13 @@ fn full_reads_wait(rt: HostRuntime) -> Result<(), Fail> {
 fn refuses_without_places(rt: HostRuntime) -> Result<(), Fail> {
     let mut bytes = BYTES;
     let mut answers = [BLANK; 1];
-    match run_over!(
-        W1,
+    match run_over::<W1>(
         &mut bytes,
         2,
         &[0],
         &[0],
         &[Command::Idle, Command::Idle],
-        &mut answers
+        &mut answers,
     ) {
         Err(Refusal::NoPlace) => same(&rt, &answers, &[BLANK]),
         _ => Err(Fail::new("ran")),
@@ -175,9 +182,9 @@ fn refuses_without_places(rt: HostRuntime) -> Result<(), Fail> {
 fn refuses_to_build(rt: HostRuntime) -> Result<(), Fail> {
     let mut bytes = BYTES;
     let mut answers = [BLANK; 0];
-    assert!(rt; run_over!(W1, &mut bytes, 65, &[0], &[0], &[], &mut answers).is_err());
-    assert!(rt; run_over!(W1, &mut bytes, 5, &[0], &[0], &[], &mut answers).is_err());
-    assert!(rt; run_over!(W1, &mut bytes, 4, &[], &[0], &[], &mut answers).is_err());
-    assert!(rt; run_over!(W1, &mut bytes, 4, &[0], &[0], &[], &mut answers).is_ok());
+    assert!(rt; run_over::<W1>(&mut bytes, 65, &[0], &[0], &[], &mut answers).is_err());
+    assert!(rt; run_over::<W1>(&mut bytes, 5, &[0], &[0], &[], &mut answers).is_err());
+    assert!(rt; run_over::<W1>(&mut bytes, 4, &[], &[0], &[], &mut answers).is_err());
+    assert!(rt; run_over::<W1>(&mut bytes, 4, &[0], &[0], &[], &mut answers).is_ok());
     Ok(())
 }
