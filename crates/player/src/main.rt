@@ -8,7 +8,7 @@ use tools::lines::{CallLine, EndLine, HeadLine};
 use tools::piles::{Played, Stop, Summary, play_file};
 
 /// More than the longest session file: what comes after is not read, since the file is refused without it.
-const LIMIT: usize = 65536;
+const LIMIT: u64 = 65536;
 
 /// Why the player ends with status 1 and no answer to its input.
 #[derive(Debug, Drop)]
@@ -25,23 +25,10 @@ impl From<io::Error> for Failure {
     }
 }
 
-/// One chunk more of the input; 0 at its end.
-fn read_chunk(from: &mut impl Read, input: &mut Vec<u8>) -> io::Result<usize> {
-    let mut chunk = [0u8; 4096];
-    let count = from.read(&mut chunk)?;
-    input.extend_from_slice(&chunk[0..count])?;
-    Ok(count)
-}
-
-/// Standard input, up to one chunk past the limit.
+/// Standard input, up to the limit.
 fn read_input(rt: &HostRuntime) -> io::Result<Vec<u8>> {
     let mut input = Vec::new(rt.alloc());
-    let mut stdin = rt.stdin();
-    for _ in 0..=LIMIT {
-        if read_chunk(&mut stdin, &mut input)? == 0 || input.len() > LIMIT {
-            break;
-        }
-    }
+    rt.stdin().take(LIMIT).read_to_end(&mut input)?;
     Ok(input)
 }
 
