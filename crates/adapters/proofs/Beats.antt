@@ -7,7 +7,7 @@ use Rattle.port.proofs.Bytes.{lanes_low, lanes_moved, lanes_split}
 use Rattle.adapters.specs.Above.{memory_with}
 use Rattle.adapters.specs.Cuts.{after_part, beat_slot, lanes_up, offset_below}
 use Rattle.adapters.specs.declared.cut.Cut.{Cut}
-use Rattle.adapters.specs.declared.cut.Slot.TheVariants.{Empty, Beat}
+use Rattle.adapters.specs.Slots.{Empty, Beat}
 use Rattle.adapters.proofs.Places.{lanes_within, same_address}
 
 -- the next part stored below leaves the memory above as it was

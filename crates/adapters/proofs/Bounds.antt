@@ -24,8 +24,7 @@ use Rattle.adapters.specs.Engine.{slot_sent}
 use Rattle.adapters.specs.Kept.{Fitted, LinedUp, slot_due}
 use Rattle.adapters.specs.Owed.{collected_after, host_words, more_to_come, offsets_in, word_up}
 use Rattle.adapters.specs.declared.cut.Cut.{Cut}
-use Rattle.adapters.specs.declared.cut.Slot.{Slot}
-use Rattle.adapters.specs.declared.cut.Slot.TheVariants.{Empty, Reading, Beat}
+use Rattle.adapters.specs.Slots.{Empty, Reading, Beat, Slot}
 use Rattle.adapters.specs.declared.owed.Collected.{Collected}
 use Rattle.adapters.specs.declared.owed.OwedBurst.{OwedBurst}
 use Rattle.adapters.proofs.Lined.{parts_fit}

@@ -17,8 +17,7 @@ use Rattle.adapters.specs.Kept.{Fitted, Keeps, Kept}
 use Rattle.adapters.specs.Owed.{bursts_in, host_words, offsets_in}
 use Rattle.adapters.specs.declared.adapter.Engine.{Engine}
 use Rattle.adapters.specs.declared.cut.Cut.{Cut}
-use Rattle.adapters.specs.declared.cut.Slot.{Slot}
-use Rattle.adapters.specs.declared.cut.Slot.TheVariants.{Empty}
+use Rattle.adapters.specs.Slots.{Empty, Slot}
 use Rattle.adapters.specs.declared.owed.Collected.{Collected}
 use Rattle.adapters.specs.declared.owed.OwedBurst.{OwedBurst}
 

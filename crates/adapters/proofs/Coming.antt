@@ -8,7 +8,7 @@ use Rattle.adapters.specs.Engine.{bursts_less}
 use Rattle.adapters.specs.Kept.{BurstsWithin}
 use Rattle.adapters.specs.Owed.{collected_after, counted, first_offset, host_words, lanes_of, lefts, more_to_come, next_owed, offsets_in, one_gone, value_with, word_up}
 use Rattle.adapters.specs.declared.cut.Cut.{Cut}
-use Rattle.adapters.specs.declared.cut.Slot.{Slot}
+use Rattle.adapters.specs.Slots.{Slot}
 use Rattle.adapters.specs.declared.owed.Collected.{Collected}
 use Rattle.adapters.specs.declared.owed.OwedBurst.{OwedBurst}
 use Rattle.adapters.proofs.Bursts.{lefts_gone}

@@ -17,8 +17,7 @@ use Rattle.adapters.specs.Cuts.{after_part, in_one_burst, is_free, next_part, of
 use Rattle.adapters.specs.Engine.{slot_sent}
 use Rattle.adapters.specs.Kept.{Between, Fitted, HoldsPart, LinedUp, Opening, WithinBeat}
 use Rattle.adapters.specs.declared.cut.Cut.{Cut}
-use Rattle.adapters.specs.declared.cut.Slot.{Slot}
-use Rattle.adapters.specs.declared.cut.Slot.TheVariants.{Empty, Reading, Beat}
+use Rattle.adapters.specs.Slots.{Empty, Reading, Beat, Slot}
 use Rattle.adapters.proofs.Parts.{asked_few, asked_most, asked_some, one_asked}
 use Rattle.adapters.proofs.Places.{offset_whole}
 

@@ -18,8 +18,7 @@ use Rattle.adapters.specs.Engine.{slot_sent}
 use Rattle.adapters.specs.Kept.{Fitted, LinedUp, Opening, offsets_in_slot}
 use Rattle.adapters.specs.Owed.{counted, host_words, offsets_in}
 use Rattle.adapters.specs.declared.cut.Cut.{Cut}
-use Rattle.adapters.specs.declared.cut.Slot.{Slot}
-use Rattle.adapters.specs.declared.cut.Slot.TheVariants.{Empty, Reading, Beat}
+use Rattle.adapters.specs.Slots.{Empty, Reading, Beat, Slot}
 use Rattle.adapters.specs.declared.owed.Collected.{Collected}
 use Rattle.adapters.specs.declared.owed.OwedBurst.{OwedBurst}
 use Rattle.adapters.proofs.Beats.{part_stored}

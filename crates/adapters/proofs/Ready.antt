@@ -22,8 +22,7 @@ use Rattle.adapters.specs.Kept.{BurstsWithin, Kept, LinedUp, offsets_in_slot}
 use Rattle.adapters.specs.Owed.{bursts_in, next_owed, offsets_in}
 use Rattle.adapters.specs.declared.adapter.Engine.{Engine}
 use Rattle.adapters.specs.declared.cut.Cut.{Cut}
-use Rattle.adapters.specs.declared.cut.Slot.{Slot}
-use Rattle.adapters.specs.declared.cut.Slot.TheVariants.{Empty, Reading, Beat}
+use Rattle.adapters.specs.Slots.{Empty, Reading, Beat, Slot}
 use Rattle.adapters.specs.declared.owed.OwedBurst.{OwedBurst}
 use Rattle.adapters.proofs.Replies.{LanesFit, write_fits}
 

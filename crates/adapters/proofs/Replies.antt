@@ -23,8 +23,7 @@ use Rattle.adapters.specs.Engine.{burst_of, reply_above, slot_filled, slot_sent}
 use Rattle.adapters.specs.Kept.{BurstsWithin, Fitted, HoldsPart, LinedUp, offsets_in_slot, slot_due}
 use Rattle.adapters.specs.Owed.{lefts, offsets_in}
 use Rattle.adapters.specs.declared.cut.Cut.{Cut}
-use Rattle.adapters.specs.declared.cut.Slot.{Slot}
-use Rattle.adapters.specs.declared.cut.Slot.TheVariants.{Empty, Reading, Beat}
+use Rattle.adapters.specs.Slots.{Empty, Reading, Beat, Slot}
 use Rattle.adapters.specs.declared.owed.Collected.{Collected}
 use Rattle.adapters.specs.declared.owed.OwedBurst.{OwedBurst}
 use Rattle.adapters.proofs.Lined.{lined_accepted}

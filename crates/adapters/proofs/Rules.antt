@@ -7,8 +7,7 @@ use Rattle.adapters.specs.Building.{narrow_cut, narrow_parts, split_cut, wide_cu
 use Rattle.adapters.specs.Cuts.{beat_slot, in_one_burst, lanes_up, offset_below, parts_in, parts_of}
 use Rattle.adapters.specs.Rules.{PartsRules, full_bursts, lanes_parts, reads, single_words, writes}
 use Rattle.adapters.specs.declared.cut.Cut.{Cut}
-use Rattle.adapters.specs.declared.cut.Slot.{Slot}
-use Rattle.adapters.specs.declared.cut.Slot.TheVariants.{Empty, Reading, Beat}
+use Rattle.adapters.specs.Slots.{Empty, Reading, Beat, Slot}
 use Rattle.port.specs.declared.numbers.Numbers.{Numbers}
 use Rattle.adapters.proofs.Places.{offset_whole}
 use Rattle.adapters.proofs.Rows.{row_fits}

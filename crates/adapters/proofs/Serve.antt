@@ -18,7 +18,7 @@ use Rattle.adapters.specs.Owed.{bursts_in, lefts}
 use Rattle.adapters.specs.declared.adapter.Engine.{Engine}
 use Rattle.adapters.specs.declared.cut.Cut.{Cut}
 use Rattle.adapters.specs.declared.cut.Shape.{Shape}
-use Rattle.adapters.specs.declared.cut.Slot.{Slot}
+use Rattle.adapters.specs.Slots.{Slot}
 use Rattle.adapters.specs.declared.owed.Collected.{Collected}
 use Rattle.adapters.specs.declared.owed.OwedBurst.{OwedBurst}
 use Rattle.adapters.proofs.Lined.{part_free}

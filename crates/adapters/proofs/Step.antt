@@ -20,7 +20,7 @@ use Rattle.adapters.specs.Engine.{burst_of, bursts_less, slot_filled, slot_sent}
 use Rattle.adapters.specs.Kept.{HoldsPart, Keeps, LinedUp, offsets_in_slot, slot_due}
 use Rattle.adapters.specs.Owed.{collected_after, lefts, next_owed, offsets_in, word_up}
 use Rattle.adapters.specs.declared.cut.Cut.{Cut}
-use Rattle.adapters.specs.declared.cut.Slot.{Slot}
+use Rattle.adapters.specs.Slots.{Slot}
 use Rattle.adapters.specs.declared.owed.Collected.{Collected}
 use Rattle.adapters.specs.declared.owed.OwedBurst.{OwedBurst}
 use Rattle.adapters.proofs.Bounds.{Hushed, hushed_on, queue_falls, silence_next, silence_within, slot_falls, slot_stays, waits_of}

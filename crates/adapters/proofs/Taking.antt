@@ -16,7 +16,7 @@ use Rattle.adapters.specs.Engine.{burst_of, slot_sent}
 use Rattle.adapters.specs.Kept.{Fitted, offsets_in_slot}
 use Rattle.adapters.specs.Owed.{counted, host_words, lefts, offsets_in}
 use Rattle.adapters.specs.declared.cut.Cut.{Cut}
-use Rattle.adapters.specs.declared.cut.Slot.TheVariants.{Empty}
+use Rattle.adapters.specs.Slots.{Empty}
 use Rattle.adapters.specs.declared.owed.Collected.{Collected}
 use Rattle.adapters.specs.declared.owed.OwedBurst.{OwedBurst}
 use Rattle.adapters.proofs.Beats.{beat_counted}

@@ -6,7 +6,7 @@ use Rattle.adapters.specs.Owed.{bursts_in}
 use Rattle.adapters.specs.declared.adapter.Adapter.{Adapter}
 use Rattle.adapters.specs.declared.adapter.Engine.{Engine}
 use Rattle.adapters.specs.declared.cut.Cut.{Cut}
-use Rattle.adapters.specs.declared.cut.Slot.TheVariants.{Empty}
+use Rattle.adapters.specs.Slots.{Empty}
 use Rattle.port.specs.Legal.{tally}
 use Rattle.port.specs.Machine.{broken, first_of}
 use Rattle.port.specs.State.{State, reset}

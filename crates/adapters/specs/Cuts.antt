@@ -2,8 +2,7 @@
 -- the memory below, byte address for byte address.
 use Rattle.std.specs.Prelude.{ℕ, zero, suc, ◌+◌, ◌-◌, ◌*◌, ◌/◌, ◌%◌, ◌^◌, ◌<◌, ◌≤◌, Bool, true, false, cond, List, [], ◌∷◌, Some, None, Option, nat_lt}
 use Rattle.adapters.specs.declared.cut.Cut.{Cut}
-use Rattle.adapters.specs.declared.cut.Slot.{Slot}
-use Rattle.adapters.specs.declared.cut.Slot.TheVariants.{Empty, Reading, Beat}
+use Rattle.adapters.specs.Slots.{Empty, Reading, Beat, Slot}
 use Rattle.port.specs.Machine.{beat_offset}
 use Rattle.port.specs.declared.calls.Command.{Command}
 use Rattle.port.specs.declared.calls.Command.TheVariants.{Idle, Read, Write}

@@ -4,7 +4,7 @@ use Rattle.adapters.specs.Cuts.{Placed, after_part, is_free, slot_for}
 use Rattle.adapters.specs.Owed.{bursts_in, collected_after, lefts, next_owed, one_gone, word_up}
 use Rattle.adapters.specs.declared.adapter.Engine.{Engine}
 use Rattle.adapters.specs.declared.cut.Cut.{Cut}
-use Rattle.adapters.specs.declared.cut.Slot.{Slot}
+use Rattle.adapters.specs.Slots.{Slot}
 use Rattle.adapters.specs.declared.owed.OwedBurst.{OwedBurst}
 use Rattle.port.specs.Legal.{Legal, tally}
 use Rattle.port.specs.Machine.{moved, refusal_in}

@@ -1,3 +1,4 @@
+pub mod Slots
 pub mod Cuts
 pub mod Owed
 pub mod Engine

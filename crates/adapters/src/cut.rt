@@ -31,17 +31,16 @@ pub(crate) struct Shape {
     ghost shared: { cut.share * width ≤ 8 },
 }
 
-/// A taken command, as far as its parts have not been taken below.
+/// A command of the host, as far as its parts have not been taken below.
 #[derive(Clone, Copy)]
-pub(crate) enum Slot {
-    Empty,
-    /// Of a read: the next host word to request, and how many are left.
-    Reading {
+pub(crate) enum Task {
+    /// A read: the next host word to request, and how many are left.
+    Read {
         next: WordOffset,
         left: u16,
     },
-    /// Of a beat: the word below to which its next part goes, how many parts are left, its mask and word from there on,
-    /// and how many beats the host's burst has left, this one counted.
+    /// A beat: the word below to which its next part goes, how many parts are left, its mask and word from there on, and how
+    /// many beats the host's burst has left, this one counted.
     Beat {
         place: WordOffset,
         parts: u8,
@@ -50,3 +49,6 @@ pub(crate) enum Slot {
         left: u16,
     },
 }
+
+/// Where an adapter keeps the one command that it has taken.
+pub(crate) type Slot = Option<Task>;

@@ -6,7 +6,7 @@ ghost use Rattle.port.specs.Legal.{tally};
 ghost use Rattle.port.specs.Refusals.{number_of};
 
 use crate::adapter::{Adapter, Engine};
-use crate::cut::{Cut, Shape, Slot};
+use crate::cut::{Cut, Shape};
 use crate::owed::{Collected, OwedBursts};
 use port::calls::Refusal;
 use port::numbers::{Limits, Numbers};
@@ -156,7 +156,7 @@ impl Engine {
         Engine {
             plain: PortRecord::new(numbers),
             shape,
-            slot: Slot::Empty,
+            slot: None,
             owed: OwedBursts::new(),
             collected: Collected::new(),
         }

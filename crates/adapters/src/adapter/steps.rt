@@ -15,7 +15,7 @@ impl Engine {
     fn reply(&self, command: Command) -> Reply
         ensures { result ≡ reply_above self.now.slot self.now.plain.bursts_owed self.now.plain.numbers.pending_limit command }
     {
-        let free = self.slot.is_free();
+        let free = self.slot.is_none();
         let room = self.plain.bursts_owed < self.plain.numbers.pending_limit;
         match command {
             Command::Idle => Reply::Idle,

@@ -1,9 +1,9 @@
 //! The parts of a slot, and the slot that a command fills.
 ghost use Rattle.std.specs.Prelude.{◌≡◌, ◌+◌, ◌*◌, ◌%◌, ◌^◌, ◌<◌, ◌≤◌};
 ghost use Rattle.adapters.specs.Owed.{lanes_of};
-ghost use Rattle.adapters.specs.Cuts.{Loadable, Placed, after_part, beat_slot, in_one_burst, is_free, lanes_up, next_part, offset_below, slot_for};
+ghost use Rattle.adapters.specs.Cuts.{Loadable, Placed, after_part, beat_slot, in_one_burst, lanes_up, next_part, offset_below, slot_for};
 
-use crate::cut::{Shape, Slot};
+use crate::cut::{Shape, Slot, Task};
 use port::addresses::WordOffset;
 use port::calls::{Command, OpenBurst, Word};
 
@@ -64,18 +64,20 @@ impl Shape {
         ensures { result ≡ next_part self.cut slot }
     {
         match slot {
-            Slot::Empty => Command::Idle,
-            Slot::Reading { next, left } => Command::Read {
+            None => Command::Idle,
+            Some(Task::Read { next, left }) => Command::Read {
                 offset: self.below(next),
                 count: self.burst_size(left) * self.cut.parts as u16,
             },
-            Slot::Beat {
-                place,
-                mask,
-                word,
-                left,
-                ..
-            } => Command::Write {
+            Some(
+                Task::Beat {
+                    place,
+                    mask,
+                    word,
+                    left,
+                    ..
+                },
+            ) => Command::Write {
                 offset: place,
                 count: self.burst_size(left) * self.cut.parts as u16,
                 mask: low_bits(mask as u64, self.cut.width) as u8,
@@ -90,36 +92,26 @@ impl Shape {
         ensures { result ≡ after_part self.cut slot }
     {
         match slot {
-            Slot::Empty => Slot::Empty,
-            Slot::Reading { next, left } => {
-                if left > self.cut.most as u16 {
-                    Slot::Reading {
-                        next: WordOffset(next.0 + self.cut.most as u32),
-                        left: left - self.cut.most as u16,
-                    }
-                } else {
-                    Slot::Empty
-                }
-            }
-            Slot::Beat {
-                place,
-                parts,
-                mask,
-                word,
+            Some(Task::Read { next, left }) if left > self.cut.most as u16 => Some(Task::Read {
+                next: WordOffset(next.0 + self.cut.most as u32),
+                left: left - self.cut.most as u16,
+            }),
+            Some(
+                Task::Beat {
+                    place,
+                    parts,
+                    mask,
+                    word,
+                    left,
+                },
+            ) if parts > 1 => Some(Task::Beat {
+                place: WordOffset(place.0 + 1),
+                parts: parts - 1,
+                mask: mask >> self.cut.width,
+                word: word >> (8 * self.cut.width),
                 left,
-            } => {
-                if parts > 1 {
-                    Slot::Beat {
-                        place: WordOffset(place.0 + 1),
-                        parts: parts - 1,
-                        mask: mask >> self.cut.width,
-                        word: word >> (8 * self.cut.width),
-                        left,
-                    }
-                } else {
-                    Slot::Empty
-                }
-            }
+            }),
+            _ => None,
         }
     }
 
@@ -130,13 +122,13 @@ impl Shape {
         ensures { result ≡ beat_slot self.cut self.width host.0 left mask word }
     {
         let up = self.lanes_up(host);
-        Slot::Beat {
+        Some(Task::Beat {
             place: self.below(host),
             parts: self.cut.parts,
             mask: move_up(mask as u64, up) as u8,
             word: move_up(word, 8 * up),
             left,
-        }
+        })
     }
 
     /// The slot that a taken command fills, while this write burst is open above.
@@ -145,11 +137,11 @@ impl Shape {
         ensures { result ≡ slot_for self.cut self.width burst command }
     {
         match (burst, command) {
-            (_, Command::Idle) => Slot::Empty,
-            (_, Command::Read { offset, count }) => Slot::Reading {
+            (_, Command::Idle) => None,
+            (_, Command::Read { offset, count }) => Some(Task::Read {
                 next: offset,
                 left: count,
-            },
+            }),
             (
                 None,
                 Command::Write {
@@ -163,14 +155,5 @@ impl Shape {
                 self.beat_slot(WordOffset(burst.next), burst.left, mask, word)
             }
         }
-    }
-}
-
-impl Slot {
-    /// Whether a command may be taken into it.
-    pub(crate) fn is_free(self) -> bool
-        ensures { result ≡ is_free self }
-    {
-        matches!(self, Slot::Empty)
     }
 }
