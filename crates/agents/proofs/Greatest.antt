@@ -1,5 +1,5 @@
 -- Laws of the greatest value of a list.
-use Rattle.std.proofs.Common.{◌≡◌, ℕ, zero, suc, ◌≤◌, max, List, [], ◌∷◌, get_or, fold, map, unwrap_or, sym, ap, ◌∙◌, arith}
+use Rattle.std.proofs.Common.{◌≡◌, ℕ, zero, suc, ◌≤◌, max, List, [], ◌∷◌, get_or, fold, unwrap_or, ◌∙◌, arith}
 use Rattle.std.proofs.lemmas.List.Folds.{max_of_map}
 use Rattle.std.proofs.lemmas.List.{map-id}
 use Rattle.std.specs.List.{reduce}

@@ -1,7 +1,7 @@
 -- A clocked call of a scripted memory, from its steps: what it keeps, how its state moves, and its timing.
-use Rattle.std.proofs.Common.{◌≡◌, ℕ, ◌+◌, ◌*◌, ◌<◌, ◌≤◌, ◌||◌, ltb, List, [], ◌∷◌, ◌++◌, length, get_or, Some, None, Option, sym, refl, ap, ◌∙◌, subst, mul-le-mul_right, add-mul, arith}
+use Rattle.std.proofs.Common.{◌≡◌, ℕ, ◌+◌, ◌*◌, ◌<◌, ◌≤◌, ◌||◌, ltb, length, get_or, Some, None, Option, sym, refl, ap, ◌∙◌, subst, mul-le-mul_right, add-mul, arith}
 use Rattle.std.proofs.lemmas.List.{length-map}
-use Rattle.std.proofs.lemmas.Bool.{cond_both, leb-false, ltb-true, or_parts}
+use Rattle.std.proofs.lemmas.Bool.{cond_both, leb-false, or_parts}
 use Rattle.agents.proofs.Greatest.{at_most_greatest}
 use Rattle.agents.proofs.Patience.{Eased, due_first, eased, in_kind, patient_call, within_call, words_fit}
 use Rattle.agents.specs.Memory.{Acted, Gave, Ready, Sound, Timed, fixed_of, lefts, state_of}
@@ -13,7 +13,6 @@ use Rattle.port.proofs.Kept.{legal_given, moves_legal, read_fits}
 use Rattle.port.proofs.Rules.{first_later, first_sooner, opening_fits}
 use Rattle.port.proofs.Steps.{acted_memory, acted_owed, acted_reads, burst_given, memory_given, same_state}
 use Rattle.port.proofs.Tally.{words_below}
-use Rattle.port.specs.Lanes.{byte_in, stored, words_at}
 use Rattle.port.specs.Legal.{Legal, OpenWithin, tally}
 use Rattle.port.specs.Machine.{Clocks, Answers, First, acted, beat_offset, command_rule, given, hold_rule, lanes_rule, moved, opening_rule, refusal_in}
 use Rattle.port.specs.State.{State, Within}

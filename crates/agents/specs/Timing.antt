@@ -1,6 +1,6 @@
 -- When a scripted memory waits, and when it returns a word. v and g are the values at which its wait script and its
 -- gap script stand, r and s the waits and the silence of its state: all as they are at the start of the call.
-use Rattle.std.specs.Prelude.{ℕ, ◌+◌, ◌-◌, ◌*◌, ◌≤◌, Bool, cond, ◌||◌, List, [], ◌∷◌, length, Some, None, Option, nat_le, nat_lt}
+use Rattle.std.specs.Prelude.{ℕ, ◌+◌, ◌*◌, ◌≤◌, Bool, cond, ◌||◌, List, [], ◌∷◌, length, Some, None, Option, nat_le, nat_lt}
 use Rattle.agents.specs.Scripts.{next_place}
 use Rattle.port.specs.State.{State}
 use Rattle.port.specs.Waiting.{calls_due}
