@@ -39,15 +39,15 @@ fn join(lanes: &[u8]) -> Word
     Word::from_le_bytes(word)
 }
 
-/// Stores the lanes of a word that the mask enables, of its first `n`, from `start` on.
-fn store(bytes: &mut [u8], start: usize, n: usize, mask: u8, word: Word)
-    requires { (n ≤ 8) × (start + n ≤ length bytes.old) }
-    ensures { bytes.new ≡ lanes_stored start mask word n bytes.old }
+/// Stores the lanes of a word that the mask enables, as far as there are places for them.
+fn store(lanes: &mut [u8], mask: u8, word: Word)
+    requires { length lanes.old ≤ 8 }
+    ensures { lanes.new ≡ lanes_stored 0 mask word (length lanes.old) lanes.old }
 {
-    let lanes = word.to_le_bytes();
-    for (i, lane) in lanes[..n].iter().enumerate() {
+    let bytes = word.to_le_bytes();
+    for (i, lane) in lanes.iter_mut().enumerate() {
         if is_enabled(mask, i) {
-            bytes[start + i] = *lane;
+            *lane = bytes[i];
         }
     }
 }
@@ -77,6 +77,6 @@ impl<'a> Bytes<'a> {
         ensures { self.new.all.now ≡ stored W.BYTES offset.0 mask word self.old.all.now }
     {
         let start = start_of::<W>(offset);
-        store(self.all, start, W::BYTES as usize, mask, word);
+        store(&mut self.all[start..start + W::BYTES as usize], mask, word);
     }
 }
