@@ -102,13 +102,13 @@ stored_part memory a e mask word up le =
     cc
 
 -- with the word at p, the words from o on are owed up to p + 1
-pub owed_more : (w : ℕ) (byte : ℕ → ℕ) (o p : ℕ) (was owed : List ℕ) → o ≤ p → owed ≡ was ++ words_at w byte o (p - o) →
-    owed ++ (word_at w byte p ∷ []) ≡ was ++ words_at w byte o (p + 1 - o)
+pub owed_more : (w : ℕ) (byte : ℕ → ℕ) (o p x : ℕ) (was owed is : List ℕ) → o ≤ p → x ≡ word_at w byte p → owed ≡ was ++ words_at w byte o (p - o) → is ≡ owed ++ (x ∷ []) →
+    is ≡ was ++ words_at w byte o (p + 1 - o)
 unfolding words_at
-owed_more w byte o p was owed le e =
+owed_more w byte o p x was owed is le here e more =
     let long : p + 1 - o ≡ p - o + 1 = omega arith in
-    let here : o + (p - o) ≡ p = omega arith in
+    let place : o + (p - o) ≡ p = omega arith in
     let all = words_append w byte o (p - o) 1 in
-    let asc = append_assoc was (words_at w byte o (p - o)) (word_at w byte p ∷ []) in
+    let asc = append_assoc was (words_at w byte o (p - o)) (x ∷ []) in
     let last : words_at w byte p 1 ≡ word_at w byte p ∷ [] = refl in
     cc

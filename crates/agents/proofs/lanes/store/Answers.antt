@@ -1,13 +1,9 @@
-use Rattle.std.proofs.Common.{◌≡◌, get_or, sym, refl, ap, ◌∙◌, arith}
+use Rattle.std.proofs.Common.{◌≡◌, get_or, sym, ap, ◌∙◌, arith}
 use Rattle.std.proofs.lemmas.List.{set-get_or}
-use Rattle.port.specs.Lanes.{lane, lanes_stored}
+use Rattle.port.specs.Lanes.{lane}
 use Rattle.agents.proofs.Joined.{lane_at, store_yes, store_no}
 use Rattle.agents.proofs.lanes.store.Goals as goal
 use Rattle.agents.proofs.lanes.store.Goals.{then-is_enabled, else-is_enabled}
-
-pub loop-i-init : goal.loop-i-init
-unfolding lanes_stored
-loop-i-init c = refl
 
 pub loop-i-preserved : goal.loop-i-preserved
 loop-i-preserved c =
