@@ -42,6 +42,6 @@ gap_place_after (Some x) size place = next_place size place
 
 -- Why no command waits longer than A ------------------------------------------
 
--- r + q ≤ v + B (L + 1)
+-- r + q ≤ v + B (L + 1), where q is how many calls at most until a read burst ends
 abbrev pub Patient : Numbers → State → ℕ → Type 0
 Patient n σ v = σ.waits + calls_due n.pending_limit n.silence_bound σ.silence σ.reads ≤ v + n.burst_limit * (n.silence_bound + 1)

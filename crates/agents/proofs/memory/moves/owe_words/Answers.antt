@@ -14,9 +14,8 @@ push-requires g c =
     omega (arith, ap length c.loop-place.invariant.1 ∙ length-append (items c.args.words.now) (words_at g.W.Width.BYTES byte c.args.offset.0 n))
 
 pub loop-place-preserved : goal.loop-place-preserved
-loop-place-preserved g c =
-    (
-      c.push.ensures.1 ∙ c.loop-place.invariant.0,
-      owed_more g.W.Width.BYTES (byte_in c.args.bytes.now.all.now) c.args.offset.0 c.loop-place.place c.word_at.result (items c.args.words.now) (items c.loop-place.words) (items c.push.new.self)
+loop-place-preserved g c = (
+  c.push.ensures.1 ∙ c.loop-place.invariant.0,
+  owed_more g.W.Width.BYTES (byte_in c.args.bytes.now.all.now) c.args.offset.0 c.loop-place.place c.word_at.result (items c.args.words.now) (items c.loop-place.words) (items c.push.new.self)
       (omega arith) c.word_at.ensures c.loop-place.invariant.1 c.push.ensures.0,
-    )
+)
