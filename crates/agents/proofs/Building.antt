@@ -1,5 +1,5 @@
 -- A memory that was built keeps what every scripted memory keeps.
-use Rattle.std.proofs.Common.{◌≡◌, ℕ, ◌+◌, ◌*◌, ◌/◌, ◌%◌, ◌<◌, ◌≤◌, List, [], map, length, sym, refl, ap, ◌∙◌, subst, ⊎_elim, arith, pow_pos}
+use Rattle.std.proofs.Common.{◌≡◌, ℕ, ◌+◌, ◌*◌, ◌%◌, ◌<◌, ◌≤◌, List, [], map, length, sym, refl, ap, ◌∙◌, subst, arith}
 use Rattle.port.proofs.Steps.{same_state}
 use Rattle.port.proofs.Waiting.{due_below, legal_reset, whole}
 use Rattle.agents.specs.Building.{Buildable, Built, numbers_of}

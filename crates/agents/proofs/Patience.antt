@@ -1,12 +1,12 @@
 -- Within the scripts' delays no command waits longer than A, and no owed word stays out longer than L.
-use Rattle.std.proofs.Common.{◌≡◌, ℕ, ◌+◌, ◌-◌, ◌*◌, ◌<◌, ◌≤◌, true, ◌||◌, ltb, leb, ◌⊎◌, List, [], ◌∷◌, length, Some, None, sym, refl, ap, ◌∙◌, subst, inl, inr, ⊎_elim, mul-le-mul_right, mul_comm, add-mul, add-one, arith}
+use Rattle.std.proofs.Common.{◌≡◌, ℕ, ◌+◌, ◌*◌, ◌<◌, ◌≤◌, true, ◌||◌, ltb, leb, ◌⊎◌, List, [], ◌∷◌, length, Some, None, refl, ap, inl, inr, ⊎_elim, mul-le-mul_right, mul_comm, add-mul, arith}
 use Rattle.std.proofs.lemmas.List.{length-append}
-use Rattle.std.proofs.lemmas.Bool.{cond_both, cond-true, cond-false, leb-true, leb-false, ltb-true, lt-leb, le-leb, or_cases, or_parts, cases_lt}
+use Rattle.std.proofs.lemmas.Bool.{cond_both, leb-true, leb-false, ltb-true, or_cases, or_parts, cases_lt}
 use Rattle.agents.specs.Timing.{first_due, word_back, bursts_full, reply_to, Patient}
 use Rattle.port.proofs.Tally.{one_came_below, total_below}
 use Rattle.port.proofs.Waiting.{due_below, due_falls, due_none}
-use Rattle.port.specs.Legal.{Legal, ReadsWithin, total}
-use Rattle.port.specs.Machine.{Answers, First, acted, given, one_came, silence_after}
+use Rattle.port.specs.Legal.{Legal}
+use Rattle.port.specs.Machine.{Answers, First, acted, given, silence_after}
 use Rattle.port.specs.State.{State, Within}
 use Rattle.port.specs.Waiting.{calls_due}
 use Rattle.port.specs.declared.calls.Command.{Command}

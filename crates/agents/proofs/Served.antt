@@ -1,8 +1,8 @@
 -- A clocked call of a scripted memory, from its steps: what it keeps, how its state moves, and its timing.
-use Rattle.std.proofs.Common.{◌≡◌, ℕ, ◌+◌, ◌*◌, ◌<◌, ◌≤◌, ◌||◌, ltb, List, [], ◌∷◌, ◌++◌, length, get_or, Some, None, Option, sym, refl, ap, ◌∙◌, subst, mul-le-mul_right, add-mul, arith}
+use Rattle.std.proofs.Common.{◌≡◌, ℕ, ◌+◌, ◌*◌, ◌<◌, ◌≤◌, ◌||◌, ltb, length, get_or, Some, None, Option, sym, refl, ap, ◌∙◌, subst, mul-le-mul_right, add-mul, arith}
 use Rattle.std.proofs.lemmas.List.{length-map}
-use Rattle.std.proofs.lemmas.Bool.{cond_both, leb-false, ltb-true, or_parts}
-use Rattle.agents.proofs.Greatest.{at_most_greatest}
+use Rattle.std.proofs.lemmas.Bool.{cond_both, leb-false, or_parts}
+use Rattle.agents.proofs.Greatest.{now_below}
 use Rattle.agents.proofs.Patience.{Eased, due_first, eased, in_kind, patient_call, within_call, words_fit}
 use Rattle.agents.specs.Memory.{Acted, Gave, Ready, Sound, Timed, fixed_of, lefts, state_of}
 use Rattle.agents.specs.Queue.{items}
@@ -13,7 +13,6 @@ use Rattle.port.proofs.Kept.{legal_given, moves_legal, read_fits}
 use Rattle.port.proofs.Rules.{first_later, first_sooner, opening_fits}
 use Rattle.port.proofs.Steps.{acted_memory, acted_owed, acted_reads, burst_given, memory_given, same_state}
 use Rattle.port.proofs.Tally.{words_below}
-use Rattle.port.specs.Lanes.{byte_in, stored, words_at}
 use Rattle.port.specs.Legal.{Legal, OpenWithin, tally}
 use Rattle.port.specs.Machine.{Clocks, Answers, First, acted, beat_offset, command_rule, given, hold_rule, lanes_rule, moved, opening_rule, refusal_in}
 use Rattle.port.specs.State.{State, Within}
@@ -30,10 +29,10 @@ use Rattle.port.specs.declared.record.PortRecord.{PortRecord}
 -- What a sound memory gives -------------------------------------------------------------
 
 short : (m : Parts) → Sound m → value_now m.gaps ≤ (fixed_of m).silence_bound
-short m sound = omega (arith, at_most_greatest (listed m.gaps) (place_of m.gaps), sound.prompt)
+short m sound = omega (arith, now_below m.gaps m.gaps_in, sound.prompt)
 
 bounded : (m : Parts) → Sound m → value_now m.waits + (fixed_of m).burst_limit * ((fixed_of m).silence_bound + 1) ≤ (fixed_of m).wait_bound
-bounded m sound = omega (arith, at_most_greatest (listed m.waits) (place_of m.waits), sound.patient)
+bounded m sound = omega (arith, now_below m.waits m.waits_in, sound.patient)
 
 easy : (m : Parts) (x : Option ℕ) → Sound m → x ≡ word_back (state_of m) (value_now m.gaps) → Eased (fixed_of m) (state_of m) (given x (state_of m))
 easy m x sound e =

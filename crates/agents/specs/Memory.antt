@@ -1,5 +1,5 @@
 -- The state that a scripted memory stands for, what it keeps, and what its steps leave.
-use Rattle.std.specs.Prelude.{◌≡◌, ℕ, ◌+◌, ◌*◌, ◌<◌, ◌≤◌, List, ◌++◌, map, length, Option}
+use Rattle.std.specs.Prelude.{◌≡◌, ℕ, ◌+◌, ◌*◌, ◌<◌, ◌≤◌, List, map, length, Option}
 use Rattle.agents.specs.Queue.{items, room}
 use Rattle.agents.specs.Scripts.{greatest_of, listed, place_of, value_now}
 use Rattle.agents.specs.Timing.{Patient, gap_place_after, reply_to, wait_place_after, word_back}

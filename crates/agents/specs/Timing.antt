@@ -1,6 +1,6 @@
 -- When a scripted memory waits, and when it returns a word. v and g are the values at which its wait script and its
 -- gap script stand, r and s the waits and the silence of its state: all as they are at the start of the call.
-use Rattle.std.specs.Prelude.{ℕ, ◌+◌, ◌-◌, ◌*◌, ◌≤◌, Bool, cond, ◌||◌, List, [], ◌∷◌, length, Some, None, Option, nat_le, nat_lt}
+use Rattle.std.specs.Prelude.{ℕ, ◌+◌, ◌*◌, ◌≤◌, Bool, cond, ◌||◌, List, [], ◌∷◌, length, Some, None, Option, nat_le, nat_lt}
 use Rattle.agents.specs.Scripts.{next_place}
 use Rattle.port.specs.State.{State}
 use Rattle.port.specs.Waiting.{calls_due}
@@ -42,6 +42,6 @@ gap_place_after (Some x) size place = next_place size place
 
 -- Why no command waits longer than A ------------------------------------------
 
--- r + q ≤ v + B (L + 1)
+-- r + q ≤ v + B (L + 1), where q is how many calls at most until a read burst ends
 abbrev pub Patient : Numbers → State → ℕ → Type 0
 Patient n σ v = σ.waits + calls_due n.pending_limit n.silence_bound σ.silence σ.reads ≤ v + n.burst_limit * (n.silence_bound + 1)

@@ -30,6 +30,7 @@ fn start_of<W: Width>(offset: WordOffset) -> usize
 }
 
 /// The word of these lanes, the lowest first.
+#[tactic(auto, using(crate::proofs::Joined::joined_eight))]
 fn join(lanes: &[u8]) -> Word
     requires { length lanes.now ≤ 8 }
     ensures { result ≡ joined_bytes (byte_in lanes.now) 0 (length lanes.now) }
@@ -39,15 +40,16 @@ fn join(lanes: &[u8]) -> Word
     Word::from_le_bytes(word)
 }
 
-/// Stores the lanes of a word that the mask enables, of its first `n`, from `start` on.
-fn store(bytes: &mut [u8], start: usize, n: usize, mask: u8, word: Word)
-    requires { (n ≤ 8) × (start + n ≤ length bytes.old) }
-    ensures { bytes.new ≡ lanes_stored start mask word n bytes.old }
+/// Stores the lanes of a word that the mask enables, as far as there are places for them.
+#[tactic(auto, unfolding(port::specs::Lanes::lanes_stored))]
+fn store(lanes: &mut [u8], mask: u8, word: Word)
+    requires { length lanes.old ≤ 8 }
+    ensures { lanes.new ≡ lanes_stored 0 mask word (length lanes.old) lanes.old }
 {
-    let lanes = word.to_le_bytes();
-    for (i, lane) in lanes[..n].iter().enumerate() {
+    let bytes = word.to_le_bytes();
+    for (i, lane) in lanes.iter_mut().enumerate() {
         if is_enabled(mask, i) {
-            bytes[start + i] = *lane;
+            *lane = bytes[i];
         }
     }
 }
@@ -63,6 +65,7 @@ impl<'a> Bytes<'a> {
     }
 
     /// The word at an offset.
+    #[tactic(auto, using(crate::proofs::Joined::joined_part))]
     pub fn word_at<W: Width>(&self, offset: WordOffset) -> Word
         requires { offset.0 * W.BYTES + W.BYTES ≤ length self.now.all.now }
         ensures { result ≡ word_at W.BYTES (byte_in self.now.all.now) offset.0 }
@@ -72,11 +75,12 @@ impl<'a> Bytes<'a> {
     }
 
     /// Stores the enabled lanes of a word at an offset.
+    #[tactic(auto, using(crate::proofs::Joined::stored_part))]
     pub fn store_word<W: Width>(&mut self, offset: WordOffset, mask: u8, word: Word)
         requires { offset.0 * W.BYTES + W.BYTES ≤ length self.old.all.now }
         ensures { self.new.all.now ≡ stored W.BYTES offset.0 mask word self.old.all.now }
     {
         let start = start_of::<W>(offset);
-        store(self.all, start, W::BYTES as usize, mask, word);
+        store(&mut self.all[start..start + W::BYTES as usize], mask, word);
     }
 }

@@ -12,3 +12,16 @@ pub struct Ring<'a, T> {
     ghost begins: { head ≤ length slots.now },
     ghost fits: { count ≤ length slots.now },
 }
+
+impl<T> Ring<'_, T> {
+    ghost use Rattle.std.specs.Prelude.{◌≡◌};
+    ghost use Rattle.agents.specs.Queue.{items};
+
+    /// How many items it holds.
+    #[tactic(auto, using(crate::proofs::Around::length_around))]
+    pub fn len(&self) -> usize
+        ensures { result ≡ length (items self.now) }
+    {
+        self.count
+    }
+}

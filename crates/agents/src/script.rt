@@ -5,8 +5,8 @@ mod steps;
 pub use steps::greatest;
 
 /// The values, and the place of the one that counts now.
-// The place is below the length by a ghost field of `Parts` and not of this struct: in a memory, which holds a `&mut`, a
-// struct with a ghost field and no `&mut` was tried, and no `Result` of the memory is then covered by the checker.
+// That the place is one of the values is a ghost field of `Parts`. Here it was tried: a `Result` of a memory, which holds a
+// `&mut` beside this struct, then gets no proof.
 #[derive(Clone, Copy)]
 pub struct Script<'a> {
     values: &'a [u8],

@@ -1,6 +1,6 @@
 //! Building a scripted memory over storage that is lent to it. Storage or limits out of range are refused, and the
 //! storage comes back.
-ghost use Rattle.std.specs.Prelude.{◌≡◌, ◌≤◌, Ok, Err};
+ghost use Rattle.std.specs.Prelude.{◌≡◌, ◌≤◌, length, Ok, Err};
 ghost use Rattle.agents.specs.Building.{Built, Enough, Unchanged, numbers_of};
 ghost use Rattle.port.specs.Refusals.{number_of};
 
@@ -14,24 +14,6 @@ use port::record::PortRecord;
 use port::width::Width;
 use std::marker::PhantomData;
 
-/// The numbers of a memory of `size` bytes: the scripts give its bounds.
-fn numbers_for<W: Width>(size: usize, waits: &[u8], gaps: &[u8], limits: Limits) -> Numbers
-    requires { size ≤ 32768 }
-    ensures are { result ≡ numbers_of W.BYTES size waits.now gaps.now limits.burst limits.pending }
-    ensures small { (result.wait_bound ≤ 100000000) × (result.silence_bound ≤ 100000000) }
-{
-    let silence_bound = greatest(gaps) as u32;
-    let wait_bound = greatest(waits) as u32 + limits.burst as u32 * (silence_bound + 1);
-    Numbers {
-        width: W::BYTES,
-        words: (size / W::BYTES as usize) as u32,
-        burst_limit: limits.burst,
-        pending_limit: limits.pending,
-        wait_bound,
-        silence_bound,
-    }
-}
-
 impl<'a> Storage<'a> {
     /// Whether a memory with these limits can be built over the storage.
     fn check(&self, limits: Limits) -> Result<(), Refusal>
@@ -42,19 +24,37 @@ impl<'a> Storage<'a> {
     {
         let beats = limits.burst as usize;
         let pending = limits.pending as usize;
-        if !(1..=64).contains(&beats) || !(1..=16).contains(&pending) {
-            return Err(Refusal::OutOfRange);
+        let fits = (1..=64).contains(&beats)
+            && (1..=16).contains(&pending)
+            && self.bytes.len() % 8 == 0
+            && (8..=32768).contains(&self.bytes.len())
+            && (1..=256).contains(&self.waits.len())
+            && (1..=256).contains(&self.gaps.len())
+            && self.words.len() >= beats * pending
+            && self.bursts.len() >= pending;
+        if fits {
+            Ok(())
+        } else {
+            Err(Refusal::OutOfRange)
         }
-        if self.bytes.len() % 8 != 0 || !(8..=32768).contains(&self.bytes.len()) {
-            return Err(Refusal::OutOfRange);
+    }
+
+    /// The numbers of a memory over the storage: the scripts give its bounds.
+    fn numbers<W: Width>(&self, limits: Limits) -> Numbers
+        requires { length self.now.bytes.now ≤ 32768 }
+        ensures are { result ≡ numbers_of W.BYTES (length self.now.bytes.now) self.now.waits.now self.now.gaps.now limits.burst limits.pending }
+        ensures small { (result.wait_bound ≤ 100000000) × (result.silence_bound ≤ 100000000) }
+    {
+        let silence_bound = greatest(self.gaps) as u32;
+        let wait_bound = greatest(self.waits) as u32 + limits.burst as u32 * (silence_bound + 1);
+        Numbers {
+            width: W::BYTES,
+            words: (self.bytes.len() / W::BYTES as usize) as u32,
+            burst_limit: limits.burst,
+            pending_limit: limits.pending,
+            wait_bound,
+            silence_bound,
         }
-        if !(1..=256).contains(&self.waits.len()) || !(1..=256).contains(&self.gaps.len()) {
-            return Err(Refusal::OutOfRange);
-        }
-        if self.words.len() < beats * pending || self.bursts.len() < pending {
-            return Err(Refusal::OutOfRange);
-        }
-        Ok(())
     }
 }
 
@@ -64,6 +64,7 @@ impl<'a> Parts<'a> {
         requires { Enough storage limits.burst limits.pending }
         ensures { Built W.BYTES storage.entry.bytes.now storage.entry.waits.now storage.entry.gaps.now limits.burst limits.pending result }
     {
+        let numbers = storage.numbers::<W>(limits);
         let Storage {
             bytes,
             waits,
@@ -71,7 +72,6 @@ impl<'a> Parts<'a> {
             words,
             bursts,
         } = storage;
-        let numbers = numbers_for::<W>(bytes.len(), waits, gaps, limits);
         Parts {
             bytes: Bytes::over(bytes),
             waits: Script::new(waits),

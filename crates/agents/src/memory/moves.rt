@@ -22,6 +22,7 @@ fn beat_place(burst: Option<OpenBurst>, offset: WordOffset) -> WordOffset
 }
 
 /// Puts the words of a read burst, as the bytes are now, after the words owed.
+#[tactic(auto, unfolding(port::specs::Lanes::words_at))]
 fn owe_words<W: Width>(
     words: &mut Ring<'_, Word>,
     bytes: &Bytes<'_>,

@@ -65,14 +65,9 @@ impl<'a, W: Width> ScriptedMemory<'a, W> {
         let full = parts.plain.bursts_owed >= parts.plain.numbers.pending_limit;
         match command {
             Command::Idle => Reply::Idle,
-            Command::Read { .. } => {
-                if early || full {
-                    Reply::Wait
-                } else {
-                    Reply::Take
-                }
-            }
-            Command::Write { .. } => { if early { Reply::Wait } else { Reply::Take } }
+            Command::Read { .. } if early || full => Reply::Wait,
+            Command::Write { .. } if early => Reply::Wait,
+            _ => Reply::Take,
         }
     }
 }

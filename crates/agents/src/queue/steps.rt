@@ -19,14 +19,6 @@ impl<'a, T: Copy> Ring<'a, T> {
         }
     }
 
-    /// How many items it holds.
-    #[tactic(auto, using(crate::proofs::Around::length_around))]
-    pub fn len(&self) -> usize
-        ensures { result ≡ length (items self.now) }
-    {
-        self.count
-    }
-
     /// Where the first item stands.
     fn start(&self) -> usize
         ensures { result ≡ start_of (room self.now) self.now.head }
@@ -73,6 +65,18 @@ impl<'a, T: Copy> Ring<'a, T> {
         Ok(())
     }
 
+    /// The first item, which stays.
+    #[tactic(auto, using(crate::proofs::Around::take_start, crate::proofs::Around::around_none))]
+    pub(crate) fn first(&self) -> Option<T>
+        ensures { result ≡ first_item (items self.now) }
+    {
+        if self.count == 0 {
+            return None;
+        }
+        let place = self.start();
+        Some(self.slots[place])
+    }
+
     /// The first item, out of the queue.
     #[tactic(auto, using(crate::proofs::Around::take_start, crate::proofs::Around::around_none))]
     pub fn take(&mut self) -> Option<T>
@@ -86,18 +90,6 @@ impl<'a, T: Copy> Ring<'a, T> {
         self.head = place + 1;
         self.count -= 1;
         Some(item)
-    }
-
-    /// The first item, which stays.
-    #[tactic(auto, using(crate::proofs::Around::take_start, crate::proofs::Around::around_none))]
-    pub(crate) fn first(&self) -> Option<T>
-        ensures { result ≡ first_item (items self.now) }
-    {
-        if self.count == 0 {
-            return None;
-        }
-        let place = self.start();
-        Some(self.slots[place])
     }
 
     /// Another item in the place of the first; nothing where there is none.

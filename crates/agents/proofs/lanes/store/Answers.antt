@@ -1,33 +1,17 @@
-use Rattle.std.proofs.Common.{◌≡◌, ◌+◌, length, get_or, set, take, sym, refl, ap, ◌∙◌, subst, arith, length-take-le}
-use Rattle.std.proofs.lemmas.List.{get_or-take}
-use Rattle.port.specs.Lanes.{lane, lanes_stored}
+use Rattle.std.proofs.Common.{◌≡◌, get_or, sym, ap, ◌∙◌, arith}
+use Rattle.std.proofs.lemmas.List.{set-get_or}
+use Rattle.port.specs.Lanes.{lane}
 use Rattle.agents.proofs.Joined.{lane_at, store_yes, store_no}
 use Rattle.agents.proofs.lanes.store.Goals as goal
 use Rattle.agents.proofs.lanes.store.Goals.{then-is_enabled, else-is_enabled}
-
-pub loop-i-init : goal.loop-i-init
-unfolding lanes_stored
-loop-i-init c = refl
 
 pub loop-i-preserved : goal.loop-i-preserved
 loop-i-preserved c =
     let a = c.args in
     let i = c.loop-i.i in
-    let lanes = c.to_le_bytes-lanes.result in
-    let long : length (take a.n lanes) ≡ a.n = length-take-le a.n lanes (omega (arith, ap length c.to_le_bytes-lanes.ensures)) in
-    let v : get_or (take a.n lanes) i 0 ≡ lane a.word i =
-    get_or-take a.n lanes i 0 (omega arith) ∙ (ap (λ l. get_or l i 0) c.to_le_bytes-lanes.ensures ∙ lane_at a.word i (omega arith)) in
+    let v : get_or c.to_le_bytes-bytes.result i 0 ≡ lane a.word i = ap (λ l. get_or l i 0) c.to_le_bytes-bytes.ensures ∙ lane_at a.word i (omega arith) in
+    let told = sym c.is_enabled.ensures in
     elim c.if-is_enabled.branch [
-      | then-is_enabled w ↦
-          w.bytes-is ∙ (ap (set c.loop-i.bytes (a.start + i)) v
-          ∙ store_yes a.start a.mask a.word i a.bytes.now c.loop-i.bytes (sym c.is_enabled.ensures ∙ w.if-is_enabled.true) c.loop-i.invariant)
-      | else-is_enabled w ↦
-          w.bytes-is ∙ store_no a.start a.mask a.word i a.bytes.now c.loop-i.bytes (sym c.is_enabled.ensures ∙ w.if-is_enabled.false) c.loop-i.invariant
+      | then-is_enabled w ↦ w.lanes-is ∙ store_yes a.mask a.word i _ a.lanes.now c.loop-i.lanes (told ∙ w.if-is_enabled.true) v c.loop-i.invariant
+      | else-is_enabled w ↦ w.lanes-is ∙ (set-get_or c.loop-i.lanes i 0 ∙ store_no a.mask a.word i a.lanes.now c.loop-i.lanes (told ∙ w.if-is_enabled.false) c.loop-i.invariant)
     ]
-
-pub returns : goal.returns
-returns c =
-    let a = c.args in
-    let lanes = c.to_le_bytes-lanes.result in
-    let long : length (take a.n lanes) ≡ a.n = length-take-le a.n lanes (omega (arith, ap length c.to_le_bytes-lanes.ensures)) in
-    subst (λ i. c.loop-i.bytes ≡ lanes_stored a.start a.mask a.word i a.bytes.now) (omega arith) c.loop-i.invariant

@@ -4,4 +4,4 @@ use Rattle.agents.proofs.lanes.store.Given as goal
 
 -- the first i lanes are stored
 abbrev pub invariant-loop-i : goal.invariant-loop-i
-invariant-loop-i l = l.bytes ≡ lanes_stored l.start l.mask l.word l.i l.initial.bytes
+invariant-loop-i l = l.lanes ≡ lanes_stored 0 l.mask l.word l.i l.initial.lanes

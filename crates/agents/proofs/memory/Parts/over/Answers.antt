@@ -6,12 +6,12 @@ pub returns : goal.returns
 returns g c =
     let s = c.args.storage in
     built g.W.Width.BYTES s.bytes.now s.waits.now s.gaps.now c.args.limits.burst c.args.limits.pending (length s.words.now) (length s.bursts.now)
-    c.numbers_for-numbers.result c.over.result c.new.result c.new-2.result c.over-2.result c.over-3.result c.new-3.result _ _
+    c.numbers-numbers.result c.over.result c.new.result c.new-2.result c.over-2.result c.over-3.result c.new-3.result _ _
     (record {
       wide = g.met.W.Width.widths;
       may = c.requires;
-      numbers = c.numbers_for-numbers.ensures.are;
-      small = c.numbers_for-numbers.ensures.small;
+      numbers = c.numbers-numbers.ensures.are;
+      small = c.numbers-numbers.ensures.small;
       memory = c.over.ensures.same;
       are_bytes = c.over.ensures.bytes;
       words_none = c.over-2.ensures.0;

@@ -1,4 +1,4 @@
-use Rattle.std.proofs.Common.{◌≡◌, ap, ◌∙◌, unwrap_or}
+use Rattle.std.proofs.Common.{ap, ◌∙◌, unwrap_or}
 use Rattle.std.proofs.lemmas.Iterator.{YieldsList-from_slice}
 use Rattle.std.proofs.lemmas.Iterator.Consumers.{YieldsList-from_copied, reduce_from_yields_List}
 use Rattle.std.specs.Ordering.{nat_cmp, max_by_ordering}

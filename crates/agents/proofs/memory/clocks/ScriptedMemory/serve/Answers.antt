@@ -1,9 +1,8 @@
-use Rattle.std.proofs.Common.{◌≡◌, ℕ, Ok, Option, ap, sym, subst, ◌∙◌}
+use Rattle.std.proofs.Common.{Ok, ap, sym, subst, ◌∙◌}
 use Rattle.agents.proofs.Served.{Steps, ready, leaves, with_plain}
 use Rattle.agents.specs.Memory.{fixed_of, state_of, Timed}
 use Rattle.port.specs.Legal.{came_word}
 use Rattle.port.specs.Machine.{Moves}
-use Rattle.port.specs.declared.calls.Reply.{Reply}
 use Rattle.agents.proofs.memory.clocks.ScriptedMemory.serve.Goals as goal
 
 pub act-requires : goal.act-requires
