@@ -10,12 +10,14 @@ pub enum FileFault {
     OutOfRange = 2,
 }
 
+// Section and record stay the numbers that are printed: a `Section` would bring the pile along.
+
 /// A fault of a file with its place.
 #[derive(Clone, Copy, PartialEq, Eq, Debug)]
 pub struct Fault {
     /// What is wrong.
     pub kind: FileFault,
-    /// The section's number, from 1. A number, since it is only printed, and a `Section` would bring the pile along.
+    /// The section's number, from 1.
     pub section: u8,
     /// The record's number in its section, from 1, or 0 for the section's count.
     pub record: u16,

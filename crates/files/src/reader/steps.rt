@@ -19,13 +19,6 @@ impl<'a> Reader<'a> {
         Reader { file, place: 0 }
     }
 
-    /// The number of bytes that are not read yet.
-    fn left(&self) -> usize
-        ensures { self.now.place + result ≡ length self.now.file.now }
-    {
-        self.file.len() - self.place
-    }
-
     /// The count that comes next, if its two bytes are there.
     pub fn count(&mut self) -> Option<u16>
         ensures same { self.new.file ≡ self.old.file }
@@ -52,17 +45,13 @@ impl<'a> Reader<'a> {
               × (self.new.place ≡ self.old.place)
         ] }
     {
-        // A range by hand, since `get` does not promise where in memory its bytes lie.
-        if self.left() < size {
-            return None;
-        }
-        let file = self.file;
-        let place = self.place;
-        self.place = place + size;
-        Some(Stretch {
-            bytes: &file[place..place + size],
-            place,
-        })
+        let whole = Stretch {
+            bytes: self.file,
+            place: 0,
+        };
+        let stretch = whole.part(self.place, size)?;
+        self.place += size;
+        Some(stretch)
     }
 
     /// The count of a section, if it is there and the section allows it.
@@ -148,7 +137,7 @@ impl<'a> Reader<'a> {
               × (f ≡ fault_at section count self.now.place Broken)
         ] }
     {
-        if self.left() > 0 {
+        if self.place < self.file.len() {
             return Err(section.fault_at(count, self.place, FileFault::Broken));
         }
         Ok(())
