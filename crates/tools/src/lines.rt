@@ -1,4 +1,5 @@
 //! The lines that the player prints. What is printed is tested, and not proved.
+use files::kinds::Pile;
 use port::calls::Answer;
 use port::numbers::Numbers;
 use std::fmt;
@@ -6,13 +7,13 @@ use std::fmt;
 /// The first line: the pile and the numbers of its top port.
 #[derive(Clone, Copy)]
 pub struct HeadLine {
-    pub pile: u8,
+    pub pile: Pile,
     pub top: Numbers,
 }
 
 impl fmt::Display for HeadLine {
     fn fmt<W: fmt::Write>(&self, f: &mut fmt::Formatter<W>) -> fmt::Result {
-        let pile = self.pile;
+        let pile = self.pile as u8;
         let Numbers {
             width,
             words,

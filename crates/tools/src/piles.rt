@@ -4,6 +4,7 @@ ghost use Rattle.tools.specs.declared.piles.Stop.TheVariants.{Fault, NoMemory};
 
 use agents::memory::ReadBurst;
 use files::faults::Fault;
+use files::kinds::Pile;
 use port::calls::Answer;
 use port::numbers::Numbers;
 use std::alloc::AllocError;
@@ -26,7 +27,7 @@ pub struct Summary {
 /// A session that was played: its pile, an answer for each command, and the summary.
 #[derive(Drop)]
 pub struct Played {
-    pub pile: u8,
+    pub pile: Pile,
     pub answers: Vec<Answer>,
     pub summary: Summary,
 }

@@ -41,25 +41,22 @@ fn play_on<P: Port>(
 
 /// Builds the pile of a session over storage, and plays its commands.
 fn play_pile(
-    pile: PileFields,
+    kind: Pile,
     storage: Storage<'_>,
     session: &Session<'_>,
     answers: &mut [Answer],
 ) -> Result<Summary, Refusal>
     ensures { elim result [
-      | Ok end ↦ Plays (numbers_over pile (length storage.entry.bytes.now) storage.entry.waits.now storage.entry.gaps.now) storage.entry.bytes.now session.now.commands.bytes.now answers.new end
+      | Ok end ↦ Plays (numbers_over session.now.pile (length storage.entry.bytes.now) storage.entry.waits.now storage.entry.gaps.now) storage.entry.bytes.now session.now.commands.bytes.now answers.new end
           × (drop (count_of session.now.commands.bytes.now) answers.new ≡ drop (count_of session.now.commands.bytes.now) answers.old)
       | Err e ↦ (answers.new ≡ answers.old)
-          × (((number_of e ≡ 2) × (Fitting pile (length storage.entry.bytes.now) (length storage.entry.waits.now) (length storage.entry.gaps.now) (length storage.entry.words.now) (length storage.entry.bursts.now) → ⊥))
+          × (((number_of e ≡ 2) × (Fitting session.now.pile (length storage.entry.bytes.now) (length storage.entry.waits.now) (length storage.entry.gaps.now) (length storage.entry.words.now) (length storage.entry.bursts.now) → ⊥))
           ⊎ ((number_of e ≡ 10) × (length answers.old < count_of session.now.commands.bytes.now)))
     ] }
 {
-    let Ok(kind) = Pile::try_from(pile.pile) else {
-        return Err(Refusal::OutOfRange);
-    };
     let limits = Limits {
-        burst: pile.burst_limit,
-        pending: pile.pending_limit,
+        burst: session.pile.burst_limit,
+        pending: session.pile.pending_limit,
     };
     match kind {
         Pile::Memory => match ScriptedMemory::<W4>::new(storage, limits) {
@@ -98,22 +95,19 @@ fn play_session(heap: Global, session: &Session<'_>) -> Result<Played, AllocErro
         mut bursts,
         mut answers,
     } = places_for(heap, session)?;
-    let Session {
-        pile,
-        waits,
-        gaps,
-        ..
-    } = *session;
     let storage = Storage {
         bytes: &mut bytes,
-        waits: waits.bytes,
-        gaps: gaps.bytes,
+        waits: session.waits.bytes,
+        gaps: session.gaps.bytes,
         words: &mut words,
         bursts: &mut bursts,
     };
+    let Ok(pile) = Pile::try_from(session.pile.pile) else {
+        unreachable()
+    };
     match play_pile(pile, storage, session, &mut answers) {
         Ok(summary) => Ok(Played {
-            pile: pile.pile,
+            pile,
             answers,
             summary,
         }),
