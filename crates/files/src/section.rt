@@ -27,6 +27,8 @@ pub fn adapters_of(pile: u8) -> Option<u8>
 }
 
 impl Section {
+    // By cases, since `as` takes no enum with a field.
+
     /// The section's number in the file.
     pub(crate) fn number(self) -> u8
         ensures { result ≡ rank self }
