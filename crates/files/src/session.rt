@@ -1,5 +1,6 @@
 //! Session files: the numbers and the stretches that a well-formed file holds, or else its first fault in file order.
 ghost use Rattle.std.specs.Prelude.{◌≡◌, ◌*◌, ◌/◌, ◌<◌, ◌≤◌, length, Some, None, Ok, Err};
+ghost use Rattle.std.specs.Simd.{first_chunks};
 ghost use Rattle.files.specs.Parts.{Piece};
 ghost use Rattle.files.specs.Sections.{carrier};
 ghost use Rattle.files.specs.declared.records.SessionRecord.TheVariants.{Command};
@@ -63,7 +64,15 @@ impl<'a> Session<'a> {
         self.commands.bytes.len() / 16
     }
 
-    // By index: what the player would write through a `zip` of records and `iter_mut`, no proof would know.
+    /// The bytes of the commands, record by record.
+    pub fn records(&self) -> &'a [[u8; 16]]
+        ensures each { result.now ≡ first_chunks 16 (length self.now.commands.bytes.now / 16) self.now.commands.bytes.now }
+        ensures count { length result.now ≡ length self.now.commands.bytes.now / 16 }
+    {
+        let bytes = self.commands.bytes;
+        let (records, _) = bytes.as_chunks();
+        records
+    }
 
     /// The record of a command, counted from 0, if there are so many.
     pub fn command(&self, index: usize) -> Option<SessionRecord<'a>>

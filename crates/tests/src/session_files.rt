@@ -36,6 +36,7 @@ fn good_file(rt: HostRuntime) -> Result<(), Fail> {
     assert!(rt; session.waits.bytes == [5, 6].as_slice() && session.gaps.bytes == [7].as_slice());
     assert!(rt; session.memory.place == 16 && session.memory.bytes.len() == 8);
     assert!(rt; session.command_count() == 3 && session.commands.place == 26);
+    assert!(rt; session.records().len() == 3);
     let Some(SessionRecord::Command(found)) = session.command(0) else {
         return Err(Fail::new("no command"));
     };

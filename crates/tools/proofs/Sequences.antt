@@ -1,6 +1,6 @@
 -- The law over the commands of a session, one command after the other.
-use Rattle.std.proofs.Common.{◌≡◌, ℕ, zero, suc, ◌+◌, ◌*◌, ◌<◌, Bool, true, false, cond, eqb, List, [], ◌∷◌, ◌++◌, length, take, set, Some, None, sym, refl, ap, ◌∙◌, subst, add-one, arith}
-use Rattle.std.proofs.lemmas.List.{length_push, length-take-le, take_more_set}
+use Rattle.std.proofs.Common.{◌≡◌, ℕ, zero, suc, ◌+◌, ◌*◌, ◌<◌, Bool, true, false, cond, eqb, List, [], ◌∷◌, ◌++◌, length, get_or, take, drop, set, mul-zero, mul-suc, Some, None, sym, refl, ap, ◌∙◌, subst, add-one, arith}
+use Rattle.std.proofs.lemmas.List.{drop-drop, length_push, length-take-le, take_more_set}
 use Rattle.port.specs.Book.{Event, book}
 use Rattle.port.specs.Legal.{Legal}
 use Rattle.port.specs.Runs.{Served}
@@ -8,6 +8,7 @@ use Rattle.port.specs.State.{State}
 use Rattle.port.specs.Answers.{Answer, Clocked, Refused}
 use Rattle.port.specs.declared.numbers.Numbers.{Numbers}
 use Rattle.port.proofs.Laws.{served_more}
+use Rattle.std.specs.Simd.{first_chunks}
 use Rattle.files.specs.Bytes.{bytes_at}
 use Rattle.tools.specs.Calls.{Played, command_in}
 use Rattle.files.specs.Fields.{command_record, command_fields_in}
@@ -81,6 +82,14 @@ all_ran n σ xs bs i τ ran image h is served =
     let got = subst (λ j. Served n image (after_commands n.width fs (take j bs) h) × (book n.width image (after_commands n.width fs (take j bs) h) ≡ τ) × AllRightly n image fs (take j bs) h) (sym long) (ran image h is served) in
     let same = after_take n.width fs bs h in
     (subst (Served n image) same got.0, ap (λ (k : List Event). book n.width image k) (sym same) ∙ got.1, rightly_take n image fs bs h got.2)
+
+-- one of the pieces of n into which a list is cut
+pub chunk_at : (n k : ℕ) (xs : List ℕ) (i : ℕ) (d : List ℕ) → i < k → get_or (first_chunks n k xs) i d ≡ take n (drop (n * i) xs)
+chunk_at n zero xs i d lt = absurd (omega arith)
+chunk_at n (suc k) xs zero d lt = rw (mul-zero n) refl
+chunk_at n (suc k) xs (suc i) d lt =
+    let turn : n + n * i ≡ n * suc i = omega (arith, mul-suc n i) in
+    chunk_at n k (drop n xs) i d (omega arith) ∙ ap (λ ys. take n ys) (drop-drop (n * i) n xs ∙ ap (λ j. drop j xs) turn)
 
 -- the record that sixteen bytes carry
 pub fields_are : (ys zs : List ℕ) (f : CommandFields) → ys ≡ zs → Some f ≡ command_fields_in ys → f ≡ command_record zs

@@ -25,15 +25,12 @@ pub(crate) fn play_all<P: Port>(
     ] }
     ensures fixed { P.fixed port.new ≡ P.fixed port.old }
 {
-    let count = session.command_count();
-    if answers.len() < count {
+    let records = session.records();
+    if answers.len() < records.len() {
         return Err(Refusal::NoPlace);
     }
-    for i in 0..count {
-        let Some(found) = session.command(i) else {
-            unreachable()
-        };
-        let Some(fields) = command_fields(found.stretch().bytes) else {
+    for (i, record) in records.iter().enumerate() {
+        let Some(fields) = command_fields(record) else {
             unreachable()
         };
         answers[i] = play_one(port, fields);
