@@ -1,19 +1,15 @@
 -- The numbers of sections without a fault are in their ranges.
 use Rattle.std.proofs.lemmas.Grind.{common_steps}
-use Rattle.std.proofs.Common.{◌≡◌, ℕ, zero, suc, ◌+◌, ◌*◌, ◌%◌, ◌<◌, ◌≤◌, true, ◌&&◌, eqb, leb, List, length, get_or, Some, None, Option, sym, ap, subst, suc-mul, zero-mul, arith, Bor, rules}
-use Rattle.std.specs.Option.{option_map}
-use Rattle.files.specs.declared.kinds.Pile.{Pile}
+use Rattle.std.proofs.Common.{◌≡◌, ℕ, zero, suc, ◌+◌, ◌*◌, ◌%◌, ◌<◌, ◌≤◌, true, ◌&&◌, eqb, leb, List, length, get_or, Some, None, Option, sym, refl, subst, suc-mul, zero-mul, arith, Bor, rules}
 use Rattle.files.specs.declared.records.PileFields.{PileFields}
 use Rattle.files.specs.declared.records.Records.{Records}
 use Rattle.files.specs.declared.section.Section.{Section}
-use Rattle.files.specs.declared.section.Section.TheVariants.{Commands}
-use Rattle.files.specs.declared.section.Section.TheVariants as section
+use Rattle.files.specs.declared.section.Section.TheVariants.{Pile, Commands}
 use Rattle.files.specs.Bytes.{bytes_at}
 use Rattle.files.specs.Faults.{count_at, records_fault}
 use Rattle.files.specs.Fields.{pile_in}
-use Rattle.files.specs.Kinds.{adapters_each, pile_of}
 use Rattle.files.specs.Parts.{Passed}
-use Rattle.files.specs.Sections.{adapters_in, allowed, from_to, bytes_each, command_wrong, pile_wrong, unless_pile, wrong_in}
+use Rattle.files.specs.Sections.{allowed, same_number, from_to, bytes_each, command_wrong, pile_wrong, unless_pile, wrong_in}
 use Rattle.files.proofs.Grammar.{both_none, count_sound, record_sound}
 
 -- the count of a section that was read is one that it allows
@@ -43,9 +39,9 @@ script_range n l e h = search rules
 pub memory_range : (n l : ℕ) → (from_to 8 32768 n && eqb (n % 8) 0) ≡ true → l ≡ n * 1 → (8 ≤ l) × (l ≤ 32768) × (l % 8 ≡ 0)
 memory_range n l e h = search rules
 
-pub adapters_range : (p : Pile) (number n l : ℕ) → pile_of number ≡ Some p → eqb n (adapters_each p) ≡ true → l ≡ n * 2
-    → (m : ℕ) × (adapters_in number ≡ Some m) × (l ≡ m * 2)
-adapters_range p number n l k e h = (adapters_each p, ap (λ (o : Option Pile). option_map adapters_each o) k, search rules)
+pub adapters_range : (o : Option ℕ) (n l : ℕ) → same_number o n ≡ true → l ≡ n * 2 → (m : ℕ) × (o ≡ Some m) × (l ≡ m * 2)
+adapters_range (Some m) n l e h = (m, refl, search rules)
+adapters_range None n l e h = search rules
 
 pub fields_range : (xs : List ℕ) (p : PileFields) → pile_wrong xs ≡ None → Some p ≡ pile_in xs
     → (1 ≤ p.burst_limit) × (p.burst_limit ≤ 64) × (1 ≤ p.pending_limit) × (p.pending_limit ≤ 16)
@@ -67,7 +63,7 @@ command_flags {whole = whole} {from = from} {r = r} p i h =
     let good = flags_range (bytes_at whole.now (from + 2 + i * 16) 16) (record_good i p (omega arith)) in
     grind (arith, common_steps)
 
-pub pile_good : {whole : Bor (List ℕ)} {from to : ℕ} {r : Records} → Passed section.Pile whole from r to → length r.stretch.bytes.now ≡ 3
+pub pile_good : {whole : Bor (List ℕ)} {from to : ℕ} {r : Records} → Passed Pile whole from r to → length r.stretch.bytes.now ≡ 3
     → pile_wrong r.stretch.bytes.now ≡ None
 pile_good {whole = whole} {from = from} {r = r} p h =
     let long = p.records_part.long in

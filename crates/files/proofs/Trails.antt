@@ -1,20 +1,18 @@
 -- The way of a reader through a session file, section by section.
 use Rattle.std.proofs.lemmas.Grind.{common_steps}
-use Rattle.std.proofs.Common.{◌≡◌, ℕ, ◌+◌, ◌<◌, List, [], ◌∷◌, length, get_or, drop, Some, None, Option, sym, refl, ap, ◌∙◌, subst, arith, Bor, rules}
+use Rattle.std.proofs.Common.{◌≡◌, ℕ, ◌+◌, ◌<◌, List, [], ◌∷◌, length, get_or, drop, Some, None, sym, refl, ap, ◌∙◌, subst, arith, Bor, rules}
 use Rattle.std.proofs.lemmas.List.{drop_all}
 use Rattle.files.specs.declared.faults.Fault.{Fault}
 use Rattle.files.specs.declared.faults.FileFault.TheVariants.{Broken}
 use Rattle.files.specs.declared.records.PileFields.{PileFields}
 use Rattle.files.specs.declared.records.Records.{Records}
 use Rattle.files.specs.declared.section.Section.{Section}
-use Rattle.files.specs.declared.section.Section.TheVariants.{Adapters, Waits, Gaps, Memory, Commands}
-use Rattle.files.specs.declared.section.Section.TheVariants as section
-use Rattle.files.specs.declared.kinds.Pile.{Pile}
-use Rattle.files.specs.Kinds.{pile_of}
-use Rattle.files.specs.Faults.{count_at, section_fault, sections_fault, rest_fault, after_pile, sections_after, first_fault, fault_at, behind}
+use Rattle.files.specs.declared.section.Section.TheVariants.{Pile, Adapters, Waits, Gaps, Memory, Commands}
+use Rattle.files.specs.Faults.{count_at, section_fault, sections_fault, rest_fault, after_pile, first_fault, fault_at, behind}
 use Rattle.files.specs.Forms.{SectionsOf}
 use Rattle.files.specs.Parts.{Passed}
 use Rattle.files.specs.Fields.{pile_in}
+use Rattle.files.specs.Sections.{adapters_in}
 use Rattle.files.specs.Sessions.{Accepted, Lies, Rejected, past_count}
 use Rattle.files.proofs.Ranges.{adapters_range, command_flags, commands_range, count_allowed, fields_range, memory_range, pile_good, script_range}
 use Rattle.files.proofs.Grammar.{section_sound, sections_complete}
@@ -25,7 +23,7 @@ pub record Reached (whole : Bor (List ℕ)) (k : Section) (js : List Section) (w
   pub left : first_fault whole.now ≡ sections_fault k js whole.now from
 
 pub start : (whole w : Bor (List ℕ)) (from : ℕ) → w ≡ whole → from ≡ 0
-    → Reached whole section.Pile (after_pile (get_or whole.now 2 0)) w from
+    → Reached whole Pile (after_pile (get_or whole.now 2 0)) w from
 start whole w from e z = record { same = e; left = rw z }
 
 sections_go : (k j : Section) (js : List Section) (xs : List ℕ) (from : ℕ) → section_fault k xs from ≡ None
@@ -66,8 +64,8 @@ refused whole f e = record {
       let bodies : List (List ℕ) =
       (s.pile_number ∷ s.burst ∷ s.pending ∷ []) ∷ s.adapter_bytes ∷ s.wait_bytes ∷ s.gap_bytes ∷ s.memory_bytes ∷ s.command_bytes ∷ [] in
       let p : s.pile_number ≡ get_or whole.now 2 0 = sym (ap (λ (ys : List ℕ). get_or ys 2 0) g.1.2) in
-      let h = sections_complete section.Pile (after_pile (get_or whole.now 2 0)) bodies whole.now 0
-      (subst (λ (n : ℕ). SectionsOf (section.Pile ∷ after_pile n) bodies whole.now) p g) in
+      let h = sections_complete Pile (after_pile (get_or whole.now 2 0)) bodies whole.now 0
+      (subst (λ (n : ℕ). SectionsOf (Pile ∷ after_pile n) bodies whole.now) p g) in
       cc;
 }
 
@@ -82,7 +80,7 @@ fields_are : (xs : List ℕ) (p : PileFields) → pile_in xs ≡ Some p → (len
 fields_are xs p e = search rules
 
 -- the pile's number is the file's byte 2
-pile_is : {whole : Bor (List ℕ)} {from to : ℕ} {r : Records} (p : PileFields) → Passed section.Pile whole from r to → from ≡ 0
+pile_is : {whole : Bor (List ℕ)} {from to : ℕ} {r : Records} (p : PileFields) → Passed Pile whole from r to → from ≡ 0
     → Some p ≡ pile_in r.stretch.bytes.now → p.pile ≡ get_or whole.now 2 0
 pile_is {whole = whole} {from = from} {r = r} p s z e =
     let f = fields_are r.stretch.bytes.now p (sym e) in
@@ -90,18 +88,12 @@ pile_is {whole = whole} {from = from} {r = r} p s z e =
     let long = s.records_part.long in
     grind (arith, common_steps)
 
--- the sections behind the pile's, for a number that stands for a pile
-after_is : (p : Pile) (n : ℕ) → pile_of n ≡ Some p → after_pile n ≡ Adapters p ∷ Waits ∷ Gaps ∷ Memory ∷ Commands ∷ []
-after_is p n e = ap (λ (o : Option Pile). sections_after o) e
-
--- past the pile's section, with its pile
-pub go_pile : {whole w v : Bor (List ℕ)} {from to : ℕ} {r : Records} {p : Pile} {q : PileFields} → (w ≡ whole) × (from ≡ 0)
-    → Passed section.Pile w from r to → v ≡ w → Some q ≡ pile_in r.stretch.bytes.now → pile_of q.pile ≡ Some p
-    → Reached whole (Adapters p) (Waits ∷ Gaps ∷ Memory ∷ Commands ∷ []) v to
-go_pile {whole = whole} {w = w} {from = from} {p = p} {q = q} (e, z) s f t k =
-    let known : pile_of (get_or whole.now 2 0) ≡ Some p =
-    subst (λ (n : ℕ). pile_of n ≡ Some p) (pile_is q (passed_in e s) z t) k in
-    go (subst (λ (js : List Section). Reached whole section.Pile js w from) (after_is p _ known) (start whole w from e z)) s f
+-- past the pile's section, with its number
+pub go_pile : {whole w v : Bor (List ℕ)} {from to : ℕ} {r : Records} {q : PileFields} → (w ≡ whole) × (from ≡ 0)
+    → Passed Pile w from r to → v ≡ w → Some q ≡ pile_in r.stretch.bytes.now
+    → Reached whole (Adapters q.pile) (Waits ∷ Gaps ∷ Memory ∷ Commands ∷ []) v to
+go_pile {whole = whole} {w = w} {v = v} {from = from} {to = to} {q = q} (e, z) s f t =
+    subst (λ (n : ℕ). Reached whole (Adapters n) (Waits ∷ Gaps ∷ Memory ∷ Commands ∷ []) v to) (sym (pile_is q (passed_in e s) z t)) (go (start whole w from e z) s f)
 
 left_over : (k : Section) (xs : List ℕ) (from to n : ℕ) (f : Fault) → to ≡ behind k xs from → n ≡ count_at xs from → to < length xs
     → f ≡ fault_at k n to Broken → rest_fault k xs from ≡ Some f
@@ -156,13 +148,13 @@ fields_all : (xs : List ℕ) (p : PileFields) → pile_in xs ≡ Some p → p.pi
 fields_all xs p e = search (rules, fields_are, three)
 
 -- six sections that were read one behind the other, up to the end of the file, are a session
-pub accepted : {whole : Bor (List ℕ)} {p0 p1 p2 p3 p4 p5 p6 : ℕ} {r1 r2 r3 r4 r5 r6 : Records} (p : Pile) (q : PileFields)
-    → p0 ≡ 0 → Passed section.Pile whole p0 r1 p1 → Some q ≡ pile_in r1.stretch.bytes.now → pile_of q.pile ≡ Some p
-    → Passed (Adapters p) whole p1 r2 p2 → Passed Waits whole p2 r3 p3 → Passed Gaps whole p3 r4 p4
+pub accepted : {whole : Bor (List ℕ)} {p0 p1 p2 p3 p4 p5 p6 : ℕ} {r1 r2 r3 r4 r5 r6 : Records} (q : PileFields)
+    → p0 ≡ 0 → Passed Pile whole p0 r1 p1 → Some q ≡ pile_in r1.stretch.bytes.now
+    → Passed (Adapters q.pile) whole p1 r2 p2 → Passed Waits whole p2 r3 p3 → Passed Gaps whole p3 r4 p4
     → Passed Memory whole p4 r5 p5 → Passed Commands whole p5 r6 p6 → p6 ≡ length whole.now → first_fault whole.now ≡ None
     → Accepted whole record
     { pile = q; adapters = r2.stretch; waits = r3.stretch; gaps = r4.stretch; memory = r5.stretch; commands = r6.stretch }
-accepted {whole = whole} {p0 = p0} {p1 = p1} {p2 = p2} {p3 = p3} {p4 = p4} {p5 = p5} {p6 = p6} {r1 = r1} {r2 = r2} {r3 = r3} {r4 = r4} {r5 = r5} {r6 = r6} p q z a1 t k a2 a3 a4 a5 a6 l n =
+accepted {whole = whole} {p0 = p0} {p1 = p1} {p2 = p2} {p3 = p3} {p4 = p4} {p5 = p5} {p6 = p6} {r1 = r1} {r2 = r2} {r3 = r3} {r4 = r4} {r5 = r5} {r6 = r6} q z a1 t a2 a3 a4 a5 a6 l n =
     let f = fields_are r1.stretch.bytes.now q (sym t) in
     let e1 = ends_at a1 in
     let e2 = ends_at a2 in
@@ -182,17 +174,16 @@ accepted {whole = whole} {p0 = p0} {p1 = p1} {p2 = p2} {p3 = p3} {p4 = p4} {p5 =
     let s4 = section_first (Memory ∷ Commands ∷ []) b4 (b5 ∷ b6 ∷ []) a4 refl s5 in
     let s3 = section_first (Gaps ∷ Memory ∷ Commands ∷ []) b3 (b4 ∷ b5 ∷ b6 ∷ []) a3 refl s4 in
     let s2 = section_first (Waits ∷ Gaps ∷ Memory ∷ Commands ∷ []) b2 (b3 ∷ b4 ∷ b5 ∷ b6 ∷ []) a2 refl s3 in
-    let s1 = section_first (Adapters p ∷ Waits ∷ Gaps ∷ Memory ∷ Commands ∷ []) b1 (b2 ∷ b3 ∷ b4 ∷ b5 ∷ b6 ∷ []) a1 (fields_all r1.stretch.bytes.now q (sym t)) s2 in
+    let s1 = section_first (after_pile q.pile) b1 (b2 ∷ b3 ∷ b4 ∷ b5 ∷ b6 ∷ []) a1 (fields_all r1.stretch.bytes.now q (sym t)) s2 in
     let g1 = fields_range r1.stretch.bytes.now q (pile_good a1 f.0) t in
-    let g2 = adapters_range p q.pile r2.count (length b2) k (count_allowed a2) a2.records_part.long in
+    let g2 = adapters_range (adapters_in q.pile) r2.count (length b2) (count_allowed a2) a2.records_part.long in
     let g3 = script_range r3.count (length b3) (count_allowed a3) a3.records_part.long in
     let g4 = script_range r4.count (length b4) (count_allowed a4) a4.records_part.long in
     let g5 = memory_range r5.count (length b5) (count_allowed a5) a5.records_part.long in
     let g6 = commands_range r6.count (length b6) (count_allowed a6) a6.records_part.long in
     record {
       faultless = n;
-      formed = subst (λ (js : List Section). SectionsOf (section.Pile ∷ js) (b1 ∷ b2 ∷ b3 ∷ b4 ∷ b5 ∷ b6 ∷ []) whole.now) (sym (after_is p q.pile k))
-          (subst (λ (m : ℕ). SectionsOf (section.Pile ∷ Adapters p ∷ Waits ∷ Gaps ∷ Memory ∷ Commands ∷ []) (b1 ∷ b2 ∷ b3 ∷ b4 ∷ b5 ∷ b6 ∷ []) (drop m whole.now)) z s1);
+      formed = subst (λ (m : ℕ). SectionsOf (Pile ∷ after_pile q.pile) (b1 ∷ b2 ∷ b3 ∷ b4 ∷ b5 ∷ b6 ∷ []) (drop m whole.now)) z s1;
       in_place = record {
         adapters_lie = lies_at 7 a2 (omega arith);
         waits_lie = lies_at (past_count r2.stretch) a3 (omega arith);

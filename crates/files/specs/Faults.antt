@@ -4,10 +4,7 @@ use Rattle.files.specs.declared.faults.FileFault.{FileFault}
 use Rattle.files.specs.declared.faults.FileFault.TheVariants.{Broken, OutOfRange}
 use Rattle.files.specs.declared.faults.Fault.{Fault}
 use Rattle.files.specs.declared.section.Section.{Section}
-use Rattle.files.specs.declared.section.Section.TheVariants.{Adapters, Waits, Gaps, Memory, Commands}
-use Rattle.files.specs.declared.section.Section.TheVariants as section
-use Rattle.files.specs.declared.kinds.Pile.{Pile}
-use Rattle.files.specs.Kinds.{pile_of}
+use Rattle.files.specs.declared.section.Section.TheVariants.{Pile, Adapters, Waits, Gaps, Memory, Commands}
 use Rattle.files.specs.Bytes.{bytes_at, number_at}
 use Rattle.files.specs.Sections.{rank, bytes_each, allowed, wrong_in}
 
@@ -63,15 +60,10 @@ unfoldable pub sections_fault : Section → List Section → List ℕ → ℕ �
 sections_fault k [] xs from = or_else (section_fault k xs from) (rest_fault k xs from)
 sections_fault k (j ∷ js) xs from = or_else (section_fault k xs from) (sections_fault j js xs (behind k xs from))
 
--- the sections that follow the pile's; none where its number stands for no pile, and then that section itself is at fault
-abbrev pub sections_after : Option Pile → List Section
-sections_after (Some p) = Adapters p ∷ Waits ∷ Gaps ∷ Memory ∷ Commands ∷ []
-sections_after None = []
-
 -- the sections that follow the pile's, for a pile of this number
 abbrev pub after_pile : ℕ → List Section
-after_pile n = sections_after (pile_of n)
+after_pile p = Adapters p ∷ Waits ∷ Gaps ∷ Memory ∷ Commands ∷ []
 
 -- the first fault of a session file; the pile's number is its byte 2
 abbrev pub first_fault : List ℕ → Option Fault
-first_fault xs = sections_fault section.Pile (after_pile (slice_index xs 2)) xs 0
+first_fault xs = sections_fault Pile (after_pile (slice_index xs 2)) xs 0

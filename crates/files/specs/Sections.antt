@@ -1,5 +1,5 @@
 -- The six sections of a session file: their numbers, the sizes of their records, the counts and the records that they allow.
-use Rattle.std.specs.Prelude.{ℕ, ◌%◌, Bool, cond, ◌&&◌, List, is_some, Some, None, Option, ◌==◌, nat_le}
+use Rattle.std.specs.Prelude.{ℕ, ◌%◌, Bool, false, cond, ◌&&◌, List, is_some, Some, None, Option, ◌==◌, nat_le}
 use Rattle.files.specs.declared.faults.FileFault.{FileFault}
 use Rattle.files.specs.declared.faults.FileFault.TheVariants.{Broken, OutOfRange}
 use Rattle.files.specs.declared.records.Stretch.{Stretch}
@@ -9,17 +9,15 @@ use Rattle.files.specs.declared.records.SessionRecord.{SessionRecord}
 use Rattle.files.specs.declared.records.SessionRecord.TheVariants as of
 use Rattle.files.specs.declared.section.Section.{Section}
 use Rattle.files.specs.declared.section.Section.TheVariants.{Pile, Adapters, Waits, Gaps, Memory, Commands}
-use Rattle.std.specs.Option.{option_map}
-use Rattle.files.specs.Kinds.{adapters_each, pile_of}
 use Rattle.files.specs.Fields.{pile_in, command_fields_in}
 
 -- n is from low to high
 abbrev pub from_to : ℕ → ℕ → ℕ → Bool
 from_to low high n = nat_le low n && nat_le n high
 
--- how many adapters the pile of a number has; a number that stands for no pile has no answer
+-- how many adapters a pile has; a number that stands for no pile has no answer
 abbrev pub adapters_in : ℕ → Option ℕ
-adapters_in n = option_map adapters_each (pile_of n)
+adapters_in n = cond (n == 2) (Some 0) None
 
 abbrev pub rank : Section → ℕ
 rank Pile = 1
@@ -38,10 +36,14 @@ bytes_each Gaps = 1
 bytes_each Memory = 1
 bytes_each Commands = 16
 
+abbrev pub same_number : Option ℕ → ℕ → Bool
+same_number (Some m) n = n == m
+same_number None n = false
+
 -- the counts that a section allows
 abbrev pub allowed : Section → ℕ → Bool
 allowed Pile n = n == 1
-allowed (Adapters p) n = n == adapters_each p
+allowed (Adapters p) n = same_number (adapters_in p) n
 allowed Waits n = from_to 1 256 n
 allowed Gaps n = from_to 1 256 n
 allowed Memory n = from_to 8 32768 n && n % 8 == 0

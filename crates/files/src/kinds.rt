@@ -1,6 +1,7 @@
 //! The numbers of a session file that stand for something: the kind of a command and the pile that is built.
-ghost use Rattle.std.specs.Prelude.{◌≡◌};
-ghost use Rattle.files.specs.Kinds.{NamesKind, NamesPile, adapters_each};
+ghost use Rattle.std.specs.Prelude.{◌≡◌, Some};
+ghost use Rattle.files.specs.Kinds.{NamesKind, NamesPile, pile_number};
+ghost use Rattle.files.specs.Sections.{adapters_in};
 
 use crate::faults::FileFault;
 
@@ -53,7 +54,7 @@ impl TryFrom<u8> for Pile {
 impl Pile {
     /// The number of adapters over the memory.
     pub fn adapters(self) -> u8
-        ensures { result ≡ adapters_each self }
+        ensures { Some result ≡ adapters_in (pile_number self) }
     {
         match self {
             Pile::Memory => 0,

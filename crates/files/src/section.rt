@@ -8,11 +8,12 @@ use crate::faults::{Fault, FileFault};
 use crate::kinds::{CommandKind, Pile};
 use crate::records::{PileFields, SessionRecord, Stretch, command_fields, pile_fields};
 
-/// A section of a session file. The adapters' is known only with the pile.
+/// A section of a session file. The adapters' is known only with the pile's number.
 #[derive(Clone, Copy)]
 pub enum Section {
     Pile,
-    Adapters(Pile),
+    /// The number as it stands in the file: a reader may be asked for the section of any.
+    Adapters(u8),
     Waits,
     Gaps,
     Memory,
@@ -61,7 +62,7 @@ impl Section {
     {
         match self {
             Section::Pile => count == 1,
-            Section::Adapters(pile) => count == u16::from(pile.adapters()),
+            Section::Adapters(pile) => adapters_of(pile).map(u16::from) == Some(count),
             Section::Waits | Section::Gaps => (1..=256).contains(&count),
             Section::Memory => (8..=32768).contains(&count) && count % 8 == 0,
             Section::Commands => count <= 1024,

@@ -7,7 +7,6 @@ ghost use Rattle.files.specs.declared.records.SessionRecord.TheVariants.{Command
 ghost use Rattle.files.specs.Sessions.{Accepted, Rejected};
 
 use crate::faults::Fault;
-use crate::kinds::Pile;
 use crate::reader::Reader;
 use crate::records::{PileFields, SessionRecord, Stretch, pile_fields};
 use crate::section::Section;
@@ -37,10 +36,7 @@ pub fn read_session(file: &[u8]) -> Result<Session<'_>, Fault>
     let Some(pile) = pile_fields(setup.stretch.bytes) else {
         unreachable()
     };
-    let Ok(kind) = Pile::try_from(pile.pile) else {
-        unreachable()
-    };
-    let adapters = reader.section(Section::Adapters(kind))?;
+    let adapters = reader.section(Section::Adapters(pile.pile))?;
     let waits = reader.section(Section::Waits)?;
     let gaps = reader.section(Section::Gaps)?;
     let memory = reader.section(Section::Memory)?;
