@@ -4,6 +4,7 @@ ghost use Rattle.std.specs.Prelude.{◌≤◌, length};
 mod steps;
 
 /// `count` items from `head` on, which go on at the front of the storage after its end.
+// The storage is lent, and the library's queues own theirs: an agent uses no heap.
 #[derive(Drop)]
 pub struct Ring<'a, T> {
     slots: &'a mut [T],

@@ -5,8 +5,8 @@ mod steps;
 pub use steps::greatest;
 
 /// The values, and the place of the one that counts now.
-// That the place is one of the values is a ghost field of `Parts`. Here it was tried: a `Result` of a memory, which holds a
-// `&mut` beside this struct, then gets no proof.
+// A place and no cycling iterator: a value is read many times before the script goes on.
+// That it is in range, `Parts` keeps: with a ghost field here (tried) a `Result` of a memory gets no proof.
 #[derive(Clone, Copy)]
 pub struct Script<'a> {
     values: &'a [u8],
