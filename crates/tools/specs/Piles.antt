@@ -1,5 +1,5 @@
 -- What the player promises of a session that was played.
-use Rattle.std.specs.Prelude.{◌≡◌, ℕ, ◌*◌, ◌/◌, List, [], length, take, Some, Ok, Err, vec_items, Result}
+use Rattle.std.specs.Prelude.{◌≡◌, ℕ, ◌*◌, ◌/◌, List, [], length, take, Ok, Err, vec_items, Result}
 use Rattle.std.specs.Borrow.{Bor}
 use Rattle.agents.specs.Building.{Buildable, numbers_of}
 use Rattle.port.specs.Book.{Event, book}
@@ -7,7 +7,7 @@ use Rattle.port.specs.Runs.{Served}
 use Rattle.port.specs.Answers.{Answer}
 use Rattle.port.specs.declared.numbers.Numbers.{Numbers}
 use Rattle.files.specs.Forms.{Contents, WellFormed}
-use Rattle.files.specs.Kinds.{pile_of}
+use Rattle.files.specs.Kinds.{pile_number}
 use Rattle.files.specs.Sessions.{Rejected}
 use Rattle.tools.specs.Plays.{AllRightly, after_commands, commands_in, takes_in}
 use Rattle.tools.specs.declared.piles.Places.{Places}
@@ -47,7 +47,7 @@ Fitting p size wait_values gap_values word_places burst_places =
 
 -- a session that was played: its memory is the image, and there is an answer for each command
 pub record SessionPlayed (s : Session) (p : Played) : Type 0 where
-  pub pile : pile_of s.pile.pile ≡ Some p.pile
+  pub pile : pile_number p.pile ≡ s.pile.pile
   pub plays : Plays (numbers_over s.pile (length s.memory.bytes.now) s.waits.bytes.now s.gaps.bytes.now) s.memory.bytes.now s.commands.bytes.now (vec_items p.answers) p.summary
   pub all : length (vec_items p.answers) ≡ count_of s.commands.bytes.now
 
@@ -59,7 +59,7 @@ top_numbers c = numbers_of 4 (length c.memory_bytes) c.wait_bytes c.gap_bytes c.
 -- memory is left free
 abbrev pub FilePlayed : Bor (List ℕ) → Result Played Stop → Type 0
 FilePlayed whole (Ok p) =
-    (c : Contents) × WellFormed whole.now c × (pile_of c.pile_number ≡ Some p.pile)
+    (c : Contents) × WellFormed whole.now c × (pile_number p.pile ≡ c.pile_number)
     × Plays (top_numbers c) c.memory_bytes c.command_bytes (vec_items p.answers) p.summary
     × (length (vec_items p.answers) ≡ count_of c.command_bytes)
 FilePlayed whole (Err (stop.Fault f)) = Rejected whole f

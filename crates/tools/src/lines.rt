@@ -1,5 +1,4 @@
 //! The lines that the player prints. What is printed is tested, and not proved.
-use files::kinds::Pile;
 use port::calls::Answer;
 use port::numbers::Numbers;
 use std::fmt;
@@ -7,13 +6,14 @@ use std::fmt;
 /// The first line: the pile and the numbers of its top port.
 #[derive(Clone, Copy)]
 pub struct HeadLine {
-    pub pile: Pile,
+    /// The number that is printed: any may be.
+    pub pile: u8,
     pub top: Numbers,
 }
 
 impl fmt::Display for HeadLine {
     fn fmt<W: fmt::Write>(&self, f: &mut fmt::Formatter<W>) -> fmt::Result {
-        let pile = self.pile as u8;
+        let pile = self.pile;
         let Numbers {
             width,
             words,
