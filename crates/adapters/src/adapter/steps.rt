@@ -19,14 +19,9 @@ impl Engine {
         let room = self.plain.bursts_owed < self.plain.numbers.pending_limit;
         match command {
             Command::Idle => Reply::Idle,
-            Command::Read { .. } => {
-                if free && room {
-                    Reply::Take
-                } else {
-                    Reply::Wait
-                }
-            }
-            Command::Write { .. } => { if free { Reply::Take } else { Reply::Wait } }
+            Command::Read { .. } if free && room => Reply::Take,
+            Command::Write { .. } if free => Reply::Take,
+            _ => Reply::Wait,
         }
     }
 

@@ -36,11 +36,7 @@ impl Shape {
     fn burst_size(self, left: u16) -> u16
         ensures { (result ≡ in_one_burst self.cut left) × (result ≤ self.cut.most) }
     {
-        if left > self.cut.most as u16 {
-            self.cut.most as u16
-        } else {
-            left
-        }
+        left.min(self.cut.most as u16)
     }
 
     /// By how many lanes a host word stands above the first lane of the word below in which it begins.

@@ -40,14 +40,16 @@ impl Numbers {
         Ok(())
     }
 
-    /// Whether the mask and the word of a write have no bits beyond the width. From a width of eight bytes on, every bit has a lane.
+    /// Whether the mask and the word of a write have no bits beyond the width. From a width of eight bytes on, every bit
+    /// has a lane.
     fn check_lanes(&self, mask: u8, word: u64) -> Result<(), Refusal>
         ensures { Checked result (lanes_rule self.now mask word) }
     {
-        if self.width < 8 {
-            if mask >= 1 << self.width || word >= 1 << (8 * self.width) {
-                return Err(Refusal::Lanes);
-            }
+        if self.width >= 8 {
+            return Ok(());
+        }
+        if mask >= 1 << self.width || word >= 1 << (8 * self.width) {
+            return Err(Refusal::Lanes);
         }
         Ok(())
     }

@@ -3,8 +3,8 @@ use Rattle.std.proofs.lemmas.Bool.{lt-leb}
 use Rattle.port.proofs.numbers.Numbers.check_lanes.Goals as goal
 
 -- from eight bytes on, no mask and no word has a bit beyond the width
-pub returns-else-self-lt8 : goal.returns-else-self-lt8
-returns-else-self-lt8 c =
+pub returns-then-self-ge8 : goal.returns-then-self-ge8
+returns-then-self-ge8 c =
     let w = c.args.self.now.width in
     let wide : 8 ≤ w = omega arith in
     let masks : 2 ^ 8 ≤ 2 ^ w = pow_mono wide in
