@@ -12,7 +12,6 @@ use Rattle.port.specs.declared.addresses.WordOffset.{WordOffset}
 use Rattle.port.specs.declared.calls.Command.{Command}
 use Rattle.port.specs.declared.calls.Command.TheVariants.{Idle, Read, Write}
 use Rattle.port.specs.declared.calls.OpenBurst.{OpenBurst}
-use Rattle.port.specs.declared.calls.Reply.{Reply}
 use Rattle.port.specs.declared.calls.Reply.TheVariants as reply
 use Rattle.port.specs.declared.numbers.Numbers.{Numbers}
 use Rattle.port.specs.declared.record.PortRecord.{PortRecord}
@@ -88,16 +87,6 @@ tally_read p n σ c o k words bursts e is more one =
     let had : p.bursts_owed ≡ length σ.reads = ap (λ (q : PortRecord). q.bursts_owed) e in
     let owed : words ≡ length (σ.owed ++ read_words n.width σ o.0 k) = omega arith in
     let reads : bursts ≡ length (σ.reads ++ (k ∷ [])) = omega (arith, length_push σ.reads k) in
-    rw is (cc)
-
--- the record after a wait
-pub tally_wait : (p : PortRecord) (n : Numbers) (σ : State) (c : Command) (a : Reply) (waits : ℕ) →
-    p ≡ tally n σ → a ≡ reply.Wait → waits ≡ p.waits + 1 →
-    ◌≡◌ {A = PortRecord} (record { numbers = p.numbers; burst = p.burst; held = Some c; words_owed = p.words_owed; bursts_owed = p.bursts_owed; waits = waits; silence = p.silence })
-    (tally n (acted n.width c a σ))
-tally_wait p n σ c a waits e is more =
-    let was : p.waits ≡ σ.waits = ap (λ (q : PortRecord). q.waits) e in
-    let all : waits ≡ σ.waits + 1 = omega arith in
     rw is (cc)
 
 pub few_waits : (n : Numbers) (σ : State) (x : Option ℕ) → Legal n σ → (given x σ).waits ≤ 100000000

@@ -40,10 +40,10 @@ pub record Plays (n : Numbers) (image xs : List ℕ) (bs : List Answer) (end : S
 abbrev pub numbers_over : PileFields → ℕ → List ℕ → List ℕ → Numbers
 numbers_over p size wait_list gap_list = numbers_of 4 size wait_list gap_list p.burst_limit p.pending_limit
 
--- a memory with the limits of a pile can be built over so many bytes, values of the scripts, and places for words and read bursts
+-- pile 2 can be built over so many bytes, values of the scripts, and places for words and read bursts
 abbrev pub Fitting : PileFields → ℕ → ℕ → ℕ → ℕ → ℕ → Type 0
 Fitting p size wait_values gap_values word_places burst_places =
-    Buildable size wait_values gap_values word_places burst_places p.burst_limit p.pending_limit
+    (p.pile ≡ 2) × Buildable size wait_values gap_values word_places burst_places p.burst_limit p.pending_limit
 
 -- a session that was played: its memory is the image, and there is an answer for each command
 pub record SessionPlayed (s : Session) (p : Played) : Type 0 where
