@@ -1,5 +1,5 @@
 -- The six sections of a session file: their numbers, the sizes of their records, the counts and the records that they allow.
-use Rattle.std.specs.Prelude.{ℕ, ◌%◌, Bool, false, cond, ◌&&◌, List, is_some, Some, None, Option, ◌==◌, nat_le}
+use Rattle.std.specs.Prelude.{ℕ, ◌%◌, Bool, false, cond, ◌&&◌, List, is_some, Some, None, Ok, Err, Option, Result, ◌==◌, nat_le}
 use Rattle.files.specs.declared.faults.FileFault.{FileFault}
 use Rattle.files.specs.declared.faults.FileFault.TheVariants.{Broken, OutOfRange}
 use Rattle.files.specs.declared.records.Stretch.{Stretch}
@@ -93,6 +93,11 @@ carrier (of.Adapter s) = s
 carrier (of.Script s) = s
 carrier (of.Memory s) = s
 carrier (of.Command s) = s
+
+-- a check passes where nothing is wrong
+abbrev pub passed : Option FileFault → Result (Unit {0}) FileFault
+passed None = Ok tt
+passed (Some k) = Err k
 
 abbrev pub wrong : SessionRecord → Option FileFault
 wrong (of.Pile s) = pile_wrong s.bytes.now

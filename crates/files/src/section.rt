@@ -2,7 +2,7 @@
 //! Only pile 2, which has no adapters, is built so far.
 ghost use Rattle.std.specs.Prelude.{◌≡◌, ◌<◌, Some, None};
 ghost use Rattle.files.specs.Faults.{fault_at};
-ghost use Rattle.files.specs.Sections.{adapters_in, allowed, bytes_each, carrier, command_wrong, pile_wrong, rank, ranged, record_in, wrong};
+ghost use Rattle.files.specs.Sections.{adapters_in, allowed, bytes_each, carrier, command_wrong, passed, pile_wrong, rank, ranged, record_in, wrong};
 
 use crate::faults::{Fault, FileFault};
 use crate::kinds::{CommandKind, Pile};
@@ -109,25 +109,27 @@ impl<'a> SessionRecord<'a> {
         }
     }
 
-    /// What is wrong with the record, if anything is.
-    pub(crate) fn fault(self) -> Option<FileFault>
-        ensures { result ≡ wrong self.entry }
+    /// Whether nothing is wrong with the record.
+    pub(crate) fn check(self) -> Result<(), FileFault>
+        ensures { result ≡ passed (wrong self.entry) }
     {
         match self {
-            SessionRecord::Pile(stretch) => pile_fault(stretch.bytes),
-            SessionRecord::Command(stretch) => command_fault(stretch.bytes),
-            SessionRecord::Adapter(_) | SessionRecord::Script(_) | SessionRecord::Memory(_) => None,
+            SessionRecord::Pile(stretch) => check_pile(stretch.bytes),
+            SessionRecord::Command(stretch) => check_command(stretch.bytes),
+            SessionRecord::Adapter(_) | SessionRecord::Script(_) | SessionRecord::Memory(_) => {
+                Ok(())
+            }
         }
     }
 }
 
-/// What is wrong with the bytes of the pile's record.
-fn pile_fault(bytes: &[u8]) -> Option<FileFault>
-    ensures { result ≡ pile_wrong bytes.now }
+/// Whether the bytes are a pile's record.
+fn check_pile(bytes: &[u8]) -> Result<(), FileFault>
+    ensures { result ≡ passed (pile_wrong bytes.now) }
 {
     match pile_fields(bytes) {
-        Some(fields) if in_range(fields) => None,
-        _ => Some(FileFault::OutOfRange),
+        Some(fields) if in_range(fields) => Ok(()),
+        _ => Err(FileFault::OutOfRange),
     }
 }
 
@@ -140,12 +142,11 @@ fn in_range(fields: PileFields) -> bool
         && (1..=16).contains(&fields.pending_limit)
 }
 
-/// What is wrong with the bytes of a command's record.
-fn command_fault(bytes: &[u8]) -> Option<FileFault>
-    ensures { result ≡ command_wrong bytes.now }
+/// Whether the bytes are a command's record.
+fn check_command(bytes: &[u8]) -> Result<(), FileFault>
+    ensures { result ≡ passed (command_wrong bytes.now) }
 {
-    match command_fields(bytes) {
-        Some(fields) => CommandKind::try_from(fields.flags).err(),
-        None => Some(FileFault::Broken),
-    }
+    let fields = command_fields(bytes).ok_or(FileFault::Broken)?;
+    CommandKind::try_from(fields.flags)?;
+    Ok(())
 }

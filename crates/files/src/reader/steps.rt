@@ -88,9 +88,9 @@ impl<'a> Reader<'a> {
             return Err(section.fault_at(number, self.file.len(), FileFault::Broken));
         };
         let found = section.record(stretch);
-        match found.fault() {
-            Some(kind) => Err(section.fault_at(number, place, kind)),
-            None => Ok(found),
+        match found.check() {
+            Ok(()) => Ok(found),
+            Err(kind) => Err(section.fault_at(number, place, kind)),
         }
     }
 
