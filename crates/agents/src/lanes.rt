@@ -14,6 +14,7 @@ pub struct Bytes<'a> {
 }
 
 /// Whether a mask enables lane `i`.
+// By hand: the library has no test of a bit.
 fn is_enabled(mask: u8, i: usize) -> bool
     requires { i < 8 }
     ensures { result ≡ enabled mask i }

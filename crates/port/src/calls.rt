@@ -8,6 +8,7 @@ mod refusals;
 pub type Word = u64;
 
 /// What a host puts to a port in one clock call.
+// Mask and word stand flat beside offset and count, as the signals of the interface do.
 #[derive(Clone, Copy, PartialEq, Eq, Debug)]
 pub enum Command {
     Idle,

@@ -19,6 +19,7 @@ pub fn run<P: Port>(port: &mut P, calls: &[Command], answers: &mut [Answer]) -> 
     if answers.len() < calls.len() {
         return Err(Refusal::NoPlace);
     }
+    // Stored by its place: of a `for` over calls and answers together a proof has no name for what was stored.
     for (i, call) in calls.iter().enumerate() {
         answers[i] = port.clock(*call);
     }

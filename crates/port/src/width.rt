@@ -34,6 +34,8 @@ pub trait Width {
     ghost widths: { Wide BYTES };
 }
 
+// Four types, and not one with a number as its parameter: not every number is a width, so no one impl has a proof.
+
 /// Words of one byte.
 #[derive(Clone, Copy)]
 pub struct W1;

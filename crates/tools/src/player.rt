@@ -29,6 +29,7 @@ pub(crate) fn play_all<P: Port>(
     if answers.len() < records.len() {
         return Err(Refusal::NoPlace);
     }
+    // Stored by its place, as in the run over calls.
     for (i, record) in records.iter().enumerate() {
         let Some(fields) = command_fields(record) else {
             unreachable()

@@ -204,6 +204,8 @@ fn over<W: Width, P: Port>(
     }
 }
 
+// Each kind has a rule of its own for what it refuses; what they share is `over`.
+
 /// A port with wider words than the port below: each host word is several words there. Its bursts have as many words as a
 /// burst below holds.
 pub fn narrower<W: Width, P: Port>(

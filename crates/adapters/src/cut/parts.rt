@@ -23,6 +23,7 @@ fn low_bits(number: u64, bits: u8) -> u64
     (number as u128 % (1 << bits)) as u64
 }
 
+// How a slot is placed, and what a command asks, depends on both values, so it is asked and stands in neither type.
 impl Shape {
     /// The word below in which a host word begins.
     fn below(self, host: WordOffset) -> WordOffset

@@ -68,6 +68,7 @@ impl OwedBursts {
     }
 
     /// One word of the oldest burst has come; the burst is owed no more when it was its last.
+    // A memory counts its bursts down likewise, in lent storage: of it an adapter knows what a port promises, and no more.
     pub(crate) fn one_came(&mut self, word: Word) -> Returned
         requires { (0 < length (bursts_in self.old)) × (next_owed (bursts_in self.old) ≤ 32768) }
         ensures has { bursts_in self.new ≡ one_gone (bursts_in self.old) }
