@@ -2,12 +2,6 @@ use Rattle.std.proofs.Common.{◌+◌, ◌*◌, ◌^◌, ◌<◌, ◌≤◌, ari
 use Rattle.adapters.proofs.Rows.{mask_moved, word_moved}
 use Rattle.adapters.proofs.cut.Shape.beat_slot.Goals as goal
 
-pub move_up-requires : goal.move_up-requires
-move_up-requires c =
-    let fits : c.lanes_up-up.result + c.args.self.width ≤ 8 = omega arith in
-    let small : c.args.mask * 2 ^ c.lanes_up-up.result < 256 = mask_moved c.args.mask c.args.self.width c.lanes_up-up.result c.requires.lanes.0 fits in
-    (omega arith, omega arith)
-
 pub overflow_cast-result : goal.overflow_cast-result
 overflow_cast-result c =
     let fits : c.lanes_up-up.result + c.args.self.width ≤ 8 = omega arith in
