@@ -31,7 +31,7 @@ pub struct Adapter<P: Port, W: Width> {
     below: P,
     engine: Engine,
     width: PhantomData<W>,
-    ghost kept: { ∥ Kept (P.fixed below) (P.state below) engine ∥₁ },
-    ghost wide: { engine.plain.numbers.width ≡ W.BYTES },
-    ghost shaped: { engine.shape.width ≡ W.BYTES },
+    pub ghost kept: { ∥ Kept (P.fixed below) (P.state below) engine ∥₁ },
+    pub ghost wide: { engine.plain.numbers.width ≡ W.BYTES },
+    pub ghost shaped: { engine.shape.width ≡ W.BYTES },
 }

@@ -1,6 +1,7 @@
 //! What an adapter owes its host: the read bursts, and the parts that have come of the first word.
 use arrayvec::ArrayVec;
 use port::addresses::WordOffset;
+use port::calls::Word;
 
 mod steps;
 
@@ -20,6 +21,6 @@ pub(crate) struct OwedBursts {
 /// The parts that have come of the first word owed, joined, and how many they are.
 #[derive(Clone, Copy)]
 pub(crate) struct Collected {
-    value: u64,
+    value: Word,
     count: u8,
 }

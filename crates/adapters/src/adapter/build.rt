@@ -22,25 +22,21 @@ fn is_factor(k: u8) -> bool
     matches!(k, 2 | 4 | 8)
 }
 
-/// Whether a pending limit is in its range.
-fn is_pending(pending: u8) -> bool
-    ensures { result ≡ in_range 1 16 pending }
-{
-    (1..=16).contains(&pending)
-}
-
-/// Whether a burst limit is in its range.
-fn is_burst(burst: u8) -> bool
-    ensures { result ≡ in_range 1 64 burst }
-{
-    (1..=64).contains(&burst)
-}
-
 /// Whether nothing is open, held or owed.
 fn is_at_rest(status: PortRecord) -> bool
     ensures { result ≡ at_rest status }
 {
     status.burst.is_none() && status.held.is_none() && status.words_owed == 0
+}
+
+/// What was made for a port, beside that port; with a refusal the port goes back.
+fn beside<T, P>(made: Result<T, Refusal>, port: P) -> Result<(T, P), (Refusal, P)>
+    ensures { elim result [ Ok x ↦ (made ≡ Ok x.0) × (x.1 ≡ port) | Err e ↦ (made ≡ Err e.0) × (e.1 ≡ port) ] }
+{
+    match made {
+        Ok(value) => Ok((value, port)),
+        Err(refusal) => Err((refusal, port)),
+    }
 }
 
 /// L': the port below may first let the slot's read wait, and then each of the parts of a word be late.
@@ -95,7 +91,7 @@ fn narrow_cut(below: Numbers, width: u8, pending_limit: u8) -> Result<Cut, Refus
     ] }
 {
     let parts = width / below.width;
-    if !is_factor(parts) || !is_pending(pending_limit) {
+    if !is_factor(parts) || !(1..=16).contains(&pending_limit) {
         return Err(Refusal::OutOfRange);
     }
     // one host word must fit into a burst below
@@ -117,7 +113,7 @@ fn split_cut(below: Numbers, width: u8, limits: Limits) -> Result<Cut, Refusal>
       | Err e ↦ split_rule below width limits.burst limits.pending ≡ Some (number_of e)
     ] }
 {
-    if width != below.width || !is_burst(limits.burst) || !is_pending(limits.pending) {
+    if width != below.width || !(1..=64).contains(&limits.burst) || !(1..=16).contains(&limits.pending) {
         return Err(Refusal::OutOfRange);
     }
     Ok(Cut {
@@ -137,7 +133,7 @@ fn wide_cut(below: Numbers, width: u8, limits: Limits) -> Result<Cut, Refusal>
     ] }
 {
     let share = below.width / width;
-    if !is_factor(share) || !is_burst(limits.burst) || !is_pending(limits.pending) {
+    if !is_factor(share) || !(1..=64).contains(&limits.burst) || !(1..=16).contains(&limits.pending) {
         return Err(Refusal::OutOfRange);
     }
     Ok(Cut {
@@ -194,17 +190,16 @@ fn over<W: Width, P: Port>(
           × (e.1 ≡ below)
     ] }
 {
-    match Engine::over(below.status(), W::BYTES, cut, limits) {
-        Ok(engine) => Ok(Adapter {
-            below,
-            engine,
-            width: PhantomData,
-        }),
-        Err(refusal) => Err((refusal, below)),
-    }
+    let engine = Engine::over(below.status(), W::BYTES, cut, limits);
+    let (engine, below) = beside(engine, below)?;
+    Ok(Adapter {
+        below,
+        engine,
+        width: PhantomData,
+    })
 }
 
-// Each kind has a rule of its own for what it refuses; what they share is `over`.
+// Each kind has a rule of its own for what it refuses, and numbers of its own; what they share is `over`.
 
 /// A port with wider words than the port below: each host word is several words there. Its bursts have as many words as a
 /// burst below holds.
@@ -219,17 +214,13 @@ pub fn narrower<W: Width, P: Port>(
           × (e.1 ≡ below)
     ] }
 {
-    match narrow_cut(below.status().numbers, W::BYTES, pending_limit) {
-        Ok(cut) => over(
-            below,
-            cut,
-            Limits {
-                burst: cut.most,
-                pending: pending_limit,
-            },
-        ),
-        Err(refusal) => Err((refusal, below)),
-    }
+    let cut = narrow_cut(below.status().numbers, W::BYTES, pending_limit);
+    let (cut, below) = beside(cut, below)?;
+    let limits = Limits {
+        burst: cut.most,
+        pending: pending_limit,
+    };
+    over(below, cut, limits)
 }
 
 /// A port that takes longer or shorter bursts than the port below, with words of the same width.
@@ -241,10 +232,9 @@ pub fn splitter<W: Width, P: Port>(below: P, limits: Limits) -> Result<Adapter<P
           × (e.1 ≡ below)
     ] }
 {
-    match split_cut(below.status().numbers, W::BYTES, limits) {
-        Ok(cut) => over(below, cut, limits),
-        Err(refusal) => Err((refusal, below)),
-    }
+    let cut = split_cut(below.status().numbers, W::BYTES, limits);
+    let (cut, below) = beside(cut, below)?;
+    over(below, cut, limits)
 }
 
 /// A port with narrower words than the port below: several host words are one word there.
@@ -256,10 +246,9 @@ pub fn widener<W: Width, P: Port>(below: P, limits: Limits) -> Result<Adapter<P,
           × (e.1 ≡ below)
     ] }
 {
-    match wide_cut(below.status().numbers, W::BYTES, limits) {
-        Ok(cut) => over(below, cut, limits),
-        Err(refusal) => Err((refusal, below)),
-    }
+    let cut = wide_cut(below.status().numbers, W::BYTES, limits);
+    let (cut, below) = beside(cut, below)?;
+    over(below, cut, limits)
 }
 
 impl<P: Port, W: Width> Adapter<P, W> {

@@ -61,10 +61,9 @@ impl OwedBursts {
     pub(crate) fn next(&self) -> WordOffset
         ensures { result.0 ≡ next_owed (bursts_in self.now) }
     {
-        match self.bursts.as_slice() {
-            [oldest, ..] => oldest.next,
-            [] => WordOffset(0),
-        }
+        self.bursts
+            .first()
+            .map_or(WordOffset(0), |oldest| oldest.next)
     }
 
     /// One word of the oldest burst has come; the burst is owed no more when it was its last.
