@@ -1,10 +1,10 @@
 -- Within the scripts' delays no command waits longer than A, and no owed word stays out longer than L.
-use Rattle.std.proofs.Common.{◌≡◌, ℕ, ◌+◌, ◌*◌, ◌<◌, ◌≤◌, true, ◌||◌, ltb, leb, ◌⊎◌, List, [], ◌∷◌, length, Some, None, refl, ap, inl, inr, ⊎_elim, mul-le-mul_right, mul_comm, add-mul, arith}
+use Rattle.std.proofs.Common.{◌≡◌, ℕ, ◌+◌, ◌*◌, ◌<◌, ◌≤◌, true, ◌||◌, ltb, leb, ◌⊎◌, List, [], ◌∷◌, length, Some, None, refl, sym, subst, ap, ◌∙◌, inl, inr, ⊎_elim, mul-le-mul_right, mul_comm, add-mul, arith}
 use Rattle.std.proofs.lemmas.List.{length-append}
 use Rattle.std.proofs.lemmas.Bool.{cond_both, leb-true, leb-false, ltb-true, or_cases, or_parts, cases_lt}
 use Rattle.agents.specs.Timing.{first_due, word_back, bursts_full, reply_to, Patient}
 use Rattle.port.proofs.Tally.{one_came_below, total_below}
-use Rattle.port.proofs.Waiting.{due_below, due_falls, due_none}
+use Rattle.port.proofs.Waiting.{due_below, due_came, due_later, due_none, none_owed}
 use Rattle.port.specs.Legal.{Legal}
 use Rattle.port.specs.Machine.{Answers, First, acted, given, silence_after}
 use Rattle.port.specs.State.{State, Within}
@@ -35,23 +35,38 @@ pub record Eased (n : Numbers) (σ : State) (τ : State) : Type 0 where
       calls_due n.pending_limit n.silence_bound τ.silence τ.reads + 1 ≤ calls_due n.pending_limit n.silence_bound σ.silence σ.reads
   pub same : τ.waits ≡ σ.waits
 
-silent_by : (l : ℕ) (σ : State) (owed : List ℕ) (g : ℕ) → g ≤ l → σ.silence ≤ l → σ.owed ≡ owed → (given (first_due owed σ.silence g) σ).silence ≤ l
-silent_by l σ [] g short quiet e =
-    let s : silence_after σ.owed σ.silence ≡ 0 = ap (λ xs. silence_after xs σ.silence) e in omega (arith, s)
-silent_by l σ (x ∷ later) g short quiet e =
-    let s : silence_after σ.owed σ.silence ≡ σ.silence + 1 = ap (λ xs. silence_after xs σ.silence) e in
-    cond_both (leb g σ.silence) (Some x) None (λ o. (given o σ).silence ≤ l) (λ t. omega arith)
-    (λ f. let early = leb-false g σ.silence f in omega (arith, s))
+eased_none : (n : Numbers) (σ : State) (x : ℕ) (later : List ℕ) (g : ℕ) → Legal n σ → g ≤ n.silence_bound → σ.owed ≡ x ∷ later → σ.silence < g → Eased n σ (given None σ)
+eased_none n σ x later g legal short some early =
+    let s : silence_after σ.owed σ.silence ≡ σ.silence + 1 = ap (λ xs. silence_after xs σ.silence) some in
+    record {
+      silent = omega (arith, s);
+      fewer = omega arith;
+      falls = λ full. subst (λ t. calls_due n.pending_limit n.silence_bound t σ.reads + 1 ≤ calls_due n.pending_limit n.silence_bound σ.silence σ.reads) (sym s)
+          (due_later n.pending_limit n.silence_bound σ.silence n.burst_limit σ.reads legal.ranges.pending_some (omega arith) legal.reading full);
+      same = refl;
+    }
+
+eased_some : (n : Numbers) (σ : State) (x : ℕ) → Legal n σ → Eased n σ (given (Some x) σ)
+eased_some n σ x legal = record {
+  silent = omega arith;
+  fewer = one_came_below σ.reads;
+  falls = λ full. due_came n.pending_limit n.silence_bound σ.silence n.burst_limit σ.reads legal.ranges.pending_some legal.within.silent legal.reading full;
+  same = refl;
+}
+
+eased_by : (n : Numbers) (σ : State) (owed : List ℕ) (g : ℕ) → Legal n σ → g ≤ n.silence_bound → σ.owed ≡ owed → Eased n σ (given (first_due owed σ.silence g) σ)
+eased_by n σ [] g legal short e =
+    let s : silence_after σ.owed σ.silence ≡ 0 = ap (λ xs. silence_after xs σ.silence) e in
+    let none : length σ.reads ≡ 0 = none_owed n.burst_limit σ.reads legal.reading (legal.counted ∙ ap length e) in
+    let some = legal.ranges.pending_some in
+    record { silent = omega (arith, s); fewer = omega arith; falls = λ full. absurd (omega arith); same = refl }
+eased_by n σ (x ∷ later) g legal short e =
+    cond_both (leb g σ.silence) (Some x) None (λ o. Eased n σ (given o σ))
+    (λ t. eased_some n σ x legal)
+    (λ f. eased_none n σ x later g legal short e (leb-false g σ.silence f))
 
 pub eased : (n : Numbers) (σ : State) (g : ℕ) → Legal n σ → g ≤ n.silence_bound → Eased n σ (given (word_back σ g) σ)
-eased n σ g legal short =
-    let x = word_back σ g in
-    record {
-      silent = silent_by n.silence_bound σ σ.owed g short legal.within.silent refl;
-      fewer = elim x as (λ y. length (given y σ).reads ≤ length σ.reads) [ None ↦ omega arith | Some v ↦ one_came_below σ.reads ];
-      falls = due_falls n σ x legal;
-      same = elim x as (λ y. (given y σ).waits ≡ σ.waits) [ None ↦ refl | Some v ↦ refl ];
-    }
+eased n σ g legal short = eased_by n σ σ.owed g legal short refl
 
 -- What is done with the command -------------------------------------------------------
 

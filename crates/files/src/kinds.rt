@@ -8,11 +8,11 @@ use crate::faults::FileFault;
 /// What a command asks for, by its flags.
 #[derive(Clone, Copy, PartialEq, Eq, Debug)]
 pub enum CommandKind {
-    Idle = 0,
-    Read = 1,
-    Write = 2,
+    Idle,
+    Read,
+    Write,
     /// No port takes both at once.
-    ReadAndWrite = 3,
+    ReadAndWrite,
 }
 
 impl TryFrom<u8> for CommandKind {
@@ -52,6 +52,13 @@ impl TryFrom<u8> for Pile {
 }
 
 impl Pile {
+    /// The number that the pile has in a session file.
+    pub fn number(self) -> u8
+        ensures { result ≡ pile_number self }
+    {
+        self as u8
+    }
+
     /// The number of adapters over the memory.
     pub fn adapters(self) -> u8
         ensures { Some result ≡ adapters_in (pile_number self) }

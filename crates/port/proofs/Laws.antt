@@ -296,6 +296,9 @@ served_more n image h σ c b τ legal is served moves = (
   ap (λ (ρ : State). fed n.width ρ c b) is ∙ fed_moves n σ c b τ moves,
 )
 
+pub ran_none : (n : Numbers) (σ : State) (bs : List Answer) → Ran n σ [] bs σ
+ran_none n σ bs image h is served = (served, is)
+
 pub ran_push : (n : Numbers) (σ : State) (cs : List Command) (bs : List Answer) (τ : State) (c : Command) (b : Answer) (υ : State) →
     length cs ≡ length bs → Legal n τ → Ran n σ cs bs τ → Moves n τ c b υ → Ran n σ (cs ++ (c ∷ [])) (bs ++ (b ∷ [])) υ
 ran_push n σ cs bs τ c b υ same legal ran moves image h is served =

@@ -1,2 +1,3 @@
 mod Finals
+mod Plays
 mod Sequences

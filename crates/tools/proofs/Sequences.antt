@@ -56,6 +56,9 @@ push n σ fs bs τ f b υ same legal ran played image h is served =
       rightly_push n image fs bs f b h same so_far.2 (subst (λ (ρ : State). Rightly n ρ f b) (sym so_far.1) (rightly n τ f b υ played)),
     )
 
+pub none_ran : (n : Numbers) (σ : State) (bs : List Answer) → SessionRan n σ [] bs σ
+none_ran n σ bs image h is served = (served, is, tt)
+
 -- one turn of the loop over a session's commands
 pub more_ran : (n : Numbers) (σ : State) (xs : List ℕ) (bs : List Answer) (i : ℕ) (τ : State) (b : Answer) (υ : State) → i < length bs → Legal n τ →
     SessionRan n σ (commands_in xs i) (take i bs) τ → Played n τ (command_record (bytes_at xs (16 * i) 16)) b υ →

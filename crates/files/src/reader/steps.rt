@@ -88,10 +88,8 @@ impl<'a> Reader<'a> {
             return Err(section.fault_at(number, self.file.len(), FileFault::Broken));
         };
         let found = section.record(stretch);
-        match found.check() {
-            Ok(()) => Ok(found),
-            Err(kind) => Err(section.fault_at(number, place, kind)),
-        }
+        found.check().map_err(|kind| section.fault_at(number, place, kind))?;
+        Ok(found)
     }
 
     /// Goes past the records of a section, if they are there and nothing is wrong with them.
