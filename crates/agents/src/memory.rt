@@ -22,6 +22,8 @@ pub struct ReadBurst {
     pub left: u16,
 }
 
+// Five slices that are lent, with the room of each: a memory needs no heap.
+
 /// What a memory is built over. The scripts say how often a command waits, and how many calls go by between words.
 #[derive(Drop)]
 pub struct Storage<'a> {

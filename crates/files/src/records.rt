@@ -51,10 +51,12 @@ pub enum SessionRecord<'a> {
     Command(Stretch<'a>),
 }
 
+// The limits are no `Limits` of a port: this crate knows of files alone.
+
 /// The fields of the pile's record.
 #[derive(Clone, Copy)]
 pub struct PileFields {
-    /// The pile's number as it stands in the file; `Pile` says which pile it is.
+    /// The pile's number as it is read, before it is judged; `Pile` says which pile it is.
     pub pile: u8,
     /// The greatest number of words of a burst.
     pub burst_limit: u8,
@@ -65,7 +67,7 @@ pub struct PileFields {
 /// The fields of a command's record.
 #[derive(Clone, Copy)]
 pub struct CommandFields {
-    /// The flags as they stand in the file; `CommandKind` says what they ask for.
+    /// The flags as they are read, before they are judged; `CommandKind` says what they ask for.
     pub flags: u8,
     pub mask: u8,
     pub count: u16,

@@ -33,6 +33,7 @@ pub fn read_session(file: &[u8]) -> Result<Session<'_>, Fault>
 {
     let mut reader = Reader::new(file);
     let setup = reader.section(Section::Pile)?;
+    // By cases: with `unwrap`, tried, the proof does not close.
     let Some(pile) = pile_fields(setup.stretch.bytes) else {
         unreachable()
     };
@@ -77,7 +78,8 @@ impl<'a> Session<'a> {
           | None ↦ length self.now.commands.bytes.now / 16 ≤ index
         ] }
     {
-        // The length is read here, since it bounds the product.
+        // The length is read here, since it bounds the product: with `checked_mul` or `command_count`, tried, the proof
+        // does not close.
         let size = self.commands.bytes.len();
         if index >= size / 16 {
             return None;

@@ -36,7 +36,7 @@ fn read_input(rt: &HostRuntime) -> io::Result<Vec<u8>> {
 fn print_played(rt: &HostRuntime, played: &Played) -> io::Result<()> {
     let Summary { top, taken, owed } = played.summary;
     let head = HeadLine {
-        pile: played.pile as u8,
+        pile: played.pile.number(),
         top,
     };
     println!(rt; "{head}")?;

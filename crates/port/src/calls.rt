@@ -8,7 +8,8 @@ mod refusals;
 pub type Word = u64;
 
 /// What a host puts to a port in one clock call.
-// Mask and word stand flat beside offset and count, as the signals of the interface do.
+// All four stand flat, as the signals of the interface do: with a struct of two of them each rule would match on two
+// more names.
 #[derive(Clone, Copy, PartialEq, Eq, Debug)]
 pub enum Command {
     Idle,

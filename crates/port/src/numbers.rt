@@ -9,6 +9,8 @@ pub struct Limits {
     pub pending: u8,
 }
 
+// The two limits stand flat here: every law of the machine names one or the other alone.
+
 /// What never changes of a port.
 #[derive(Clone, Copy)]
 pub struct Numbers {

@@ -6,6 +6,8 @@ ghost use Rattle.port.specs.Runs.{Ran};
 use crate::calls::{Answer, Command, Refusal};
 use crate::ports::Port;
 
+// The answers go to places that the caller lends: a port needs no heap.
+
 /// Puts the calls to the port, and stores an answer for each. Refused where there are fewer places than calls.
 pub fn run<P: Port>(port: &mut P, calls: &[Command], answers: &mut [Answer]) -> Result<(), Refusal>
     ensures ran { elim result [
@@ -19,7 +21,7 @@ pub fn run<P: Port>(port: &mut P, calls: &[Command], answers: &mut [Answer]) -> 
     if answers.len() < calls.len() {
         return Err(Refusal::NoPlace);
     }
-    // Stored by its place: of a `for` over calls and answers together a proof has no name for what was stored.
+    // Stored by its place: a `zip` with `iter_mut` was tried, and a proof has no name for what it stored.
     for (i, call) in calls.iter().enumerate() {
         answers[i] = port.clock(*call);
     }

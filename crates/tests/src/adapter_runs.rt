@@ -12,6 +12,12 @@ use std::test::Fail;
 
 const IDLE: Command = Command::Idle;
 
+/// A widener that owes two reads at most.
+const TWO_READS: Limits = Limits {
+    burst: 8,
+    pending: 2,
+};
+
 const NONE: Answer = Ok((Reply::Idle, None));
 
 const WAIT: Answer = Ok((Reply::Wait, None));
@@ -91,16 +97,6 @@ macro_rules! with_memory {
 fn on_busy<W: Width, P: Port + Drop>(mut below: P, command: Command) -> Result<(), Refusal> {
     let _ = below.clock(command);
     run_on(narrower::<W, P>(below, 1), &[], &mut [])
-}
-
-fn refused(rt: &impl Abort, outcome: Result<(), Refusal>, wanted: Refusal) -> Result<(), Fail> {
-    match outcome {
-        Ok(()) => Err(Fail::new("built")),
-        Err(refusal) => {
-            assert_eq!(rt; refusal, wanted);
-            Ok(())
-        },
-    }
 }
 
 /// k is 2, where each command waits once below and each word is one call late; 4, where the second read waits for the
@@ -200,10 +196,7 @@ fn widens(rt: HostRuntime) -> Result<(), Fail> {
         with_memory!(W8, 2, &[0], memory => run_on(
             widener::<W4, _>(
                 memory,
-                Limits {
-                    burst: 8,
-                    pending: 2
-                }
+                TWO_READS
             ),
             &calls,
             &mut answers
@@ -231,10 +224,7 @@ fn widens(rt: HostRuntime) -> Result<(), Fail> {
         with_memory!(W8, 2, &[0], memory => run_on(
             widener::<W2, _>(
                 memory,
-                Limits {
-                    burst: 8,
-                    pending: 2
-                }
+                TWO_READS
             ),
             &calls,
             &mut answers
@@ -260,10 +250,7 @@ fn widens(rt: HostRuntime) -> Result<(), Fail> {
         with_memory!(W8, 2, &[0], memory => run_on(
             widener::<W1, _>(
                 memory,
-                Limits {
-                    burst: 8,
-                    pending: 2
-                }
+                TWO_READS
             ),
             &calls,
             &mut answers
@@ -423,39 +410,29 @@ fn splits_over_a_widener(rt: HostRuntime) -> Result<(), Fail> {
 /// splitter's A' would be 275,816,704.
 #[test]
 fn refuses_to_adapt(rt: HostRuntime) -> Result<(), Fail> {
-    refused(
-        &rt,
+    assert_eq!(rt;
         with_memory!(W4, 8, &[0], memory => run_on(narrower::<W4, _>(memory, 1), &[], &mut [])),
-        Refusal::OutOfRange,
-    )?;
-    refused(
-        &rt,
-        with_memory!(W4, 8, &[0], memory => run_on(
-            widener::<W2, _>(
-                memory,
-                Limits {
-                    burst: 65,
-                    pending: 2,
-                },
-            ),
-            &[],
-            &mut [],
-        )),
-        Refusal::OutOfRange,
-    )?;
-    refused(
-        &rt,
+        Err(Refusal::OutOfRange)
+    );
+    let wide = Limits {
+        burst: 65,
+        pending: 2,
+    };
+    assert_eq!(rt;
+        with_memory!(W4, 8, &[0], memory => run_on(widener::<W2, _>(memory, wide), &[], &mut [])),
+        Err(Refusal::OutOfRange)
+    );
+    assert_eq!(rt;
         with_memory!(W1, 7, &[0], memory => run_on(narrower::<W8, _>(memory, 1), &[], &mut [])),
-        Refusal::PortBelow,
-    )?;
-    refused(
-        &rt,
+        Err(Refusal::PortBelow)
+    );
+    assert_eq!(rt;
         with_memory!(W4, 8, &[1], memory => on_busy::<W8, _>(memory, read(0, 1))),
-        Refusal::PortBelow,
-    )?;
-    refused(
-        &rt,
+        Err(Refusal::PortBelow)
+    );
+    assert_eq!(rt;
         with_memory!(W8, 64, &[255], memory => on_split_widener::<W4, _>(memory, 64, 64, &[], &mut [])),
-        Refusal::Bound,
-    )
+        Err(Refusal::Bound)
+    );
+    Ok(())
 }

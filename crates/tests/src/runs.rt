@@ -165,17 +165,12 @@ fn full_reads_wait(rt: HostRuntime) -> Result<(), Fail> {
 fn refuses_without_places(rt: HostRuntime) -> Result<(), Fail> {
     let mut bytes = BYTES;
     let mut answers = [BLANK; 1];
-    match run_over::<W1>(
-        &mut bytes,
-        2,
-        &[0],
-        &[0],
-        &[Command::Idle, Command::Idle],
-        &mut answers,
-    ) {
-        Err(Refusal::NoPlace) => same(&rt, &answers, &[BLANK]),
-        _ => Err(Fail::new("ran")),
-    }
+    let calls = [Command::Idle, Command::Idle];
+    assert_eq!(rt;
+        run_over::<W1>(&mut bytes, 2, &[0], &[0], &calls, &mut answers),
+        Err(Refusal::NoPlace)
+    );
+    same(&rt, &answers, &[BLANK])
 }
 
 #[test]

@@ -1,5 +1,5 @@
 -- How the rules of a session's command fit together.
-use Rattle.std.proofs.Common.{◌≡◌, ℕ, ◌≤◌, true, false, not, ◌&&◌, Some, None, Ok, Option, ap, arith}
+use Rattle.std.proofs.Common.{◌≡◌, ℕ, ◌≤◌, true, false, not, ◌&&◌, Some, None, Ok, Option, refl, ap, arith}
 use Rattle.std.proofs.lemmas.Bool.{and_right, eq-eqb, lt-leb, ne_eqb}
 use Rattle.port.specs.Legal.{tally}
 use Rattle.port.specs.State.{State}

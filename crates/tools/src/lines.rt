@@ -6,7 +6,7 @@ use std::fmt;
 /// The first line: the pile and the numbers of its top port.
 #[derive(Clone, Copy)]
 pub struct HeadLine {
-    /// The number that is printed: any may be.
+    /// Printed as it is: a `Pile` here would ask more of who prints.
     pub pile: u8,
     pub top: Numbers,
 }

@@ -5,7 +5,7 @@ ghost use Rattle.tools.specs.declared.piles.Stop.TheVariants.{Fault, NoMemory};
 use agents::memory::ReadBurst;
 use files::faults::Fault;
 use files::kinds::Pile;
-use port::calls::Answer;
+use port::calls::{Answer, Word};
 use port::numbers::Numbers;
 use std::alloc::AllocError;
 
@@ -36,7 +36,7 @@ pub struct Played {
 #[derive(Drop)]
 struct Places {
     bytes: Vec<u8>,
-    words: Vec<u64>,
+    words: Vec<Word>,
     bursts: Vec<ReadBurst>,
     answers: Vec<Answer>,
 }

@@ -10,6 +10,8 @@ use files::session::Session;
 use port::calls::{Answer, Refusal, Reply};
 use port::ports::Port;
 
+// Not the run over calls: the rules of a session may refuse a command before the port is asked, in the state of its turn.
+
 /// Puts the commands of a session to the port, and stores an answer for each. Refused where there are fewer
 /// places than commands.
 pub(crate) fn play_all<P: Port>(
@@ -31,9 +33,7 @@ pub(crate) fn play_all<P: Port>(
     }
     // Stored by its place, as in the run over calls.
     for (i, record) in records.iter().enumerate() {
-        let Some(fields) = command_fields(record) else {
-            unreachable()
-        };
+        let fields = command_fields(record).unwrap();
         answers[i] = play_one(port, fields);
     }
     Ok(())

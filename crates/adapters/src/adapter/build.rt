@@ -113,7 +113,10 @@ fn split_cut(below: Numbers, width: u8, limits: Limits) -> Result<Cut, Refusal>
       | Err e ↦ split_rule below width limits.burst limits.pending ≡ Some (number_of e)
     ] }
 {
-    if width != below.width || !(1..=64).contains(&limits.burst) || !(1..=16).contains(&limits.pending) {
+    if width != below.width
+        || !(1..=64).contains(&limits.burst)
+        || !(1..=16).contains(&limits.pending)
+    {
         return Err(Refusal::OutOfRange);
     }
     Ok(Cut {
@@ -133,7 +136,10 @@ fn wide_cut(below: Numbers, width: u8, limits: Limits) -> Result<Cut, Refusal>
     ] }
 {
     let share = below.width / width;
-    if !is_factor(share) || !(1..=64).contains(&limits.burst) || !(1..=16).contains(&limits.pending) {
+    if !is_factor(share)
+        || !(1..=64).contains(&limits.burst)
+        || !(1..=16).contains(&limits.pending)
+    {
         return Err(Refusal::OutOfRange);
     }
     Ok(Cut {

@@ -11,6 +11,8 @@ use port::calls::{Clocked, Command, Reply, Word};
 use port::record::Returned;
 
 impl Engine {
+    // A memory waits by its script, an adapter while a task is below: two rules, and nothing of one is in the other.
+
     /// How a command that is not refused is answered.
     fn reply(&self, command: Command) -> Reply
         ensures { result ≡ reply_above self.now.slot self.now.plain.bursts_owed self.now.plain.numbers.pending_limit command }

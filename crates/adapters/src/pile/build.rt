@@ -28,6 +28,7 @@ fn build<U: Width, V: Width, P: Port>(
     ] }
 {
     let low = widener::<U, P>(below, limits.widener)?;
+    // By cases: with `map_err`, tried, what the last refusal hands back has no proof.
     let middle = match splitter::<U, Adapter<P, U>>(low, limits.splitter) {
         Ok(middle) => middle,
         Err((refusal, low)) => return Err((refusal, low.into_below())),

@@ -15,6 +15,7 @@ use port::record::Returned;
 use port::width::Width;
 
 /// A word of the oldest read burst comes back: the burst has one fewer left, or it is owed no more.
+// An adapter counts its bursts down likewise, in places of its own, each with the word that comes next.
 fn count_down(bursts: &mut Ring<'_, ReadBurst>, word: Word) -> Returned
     requires { 0 < length (lefts bursts.old) }
     ensures same { room bursts.new ≡ room bursts.old }

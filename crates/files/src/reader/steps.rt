@@ -88,7 +88,9 @@ impl<'a> Reader<'a> {
             return Err(section.fault_at(number, self.file.len(), FileFault::Broken));
         };
         let found = section.record(stretch);
-        found.check().map_err(|kind| section.fault_at(number, place, kind))?;
+        found
+            .check()
+            .map_err(|kind| section.fault_at(number, place, kind))?;
         Ok(found)
     }
 

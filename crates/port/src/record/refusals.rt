@@ -3,7 +3,7 @@ ghost use Rattle.std.specs.Prelude.{◌≡◌, ◌+◌, ◌*◌};
 ghost use Rattle.port.specs.Machine.{repeats, opening_rule, lanes_rule, command_rule, refusal_by};
 ghost use Rattle.port.specs.Refusals.{Checked};
 
-use crate::calls::{Command, OpenBurst, Refusal};
+use crate::calls::{Command, OpenBurst, Refusal, Word};
 use crate::numbers::Numbers;
 use crate::record::PortRecord;
 
@@ -42,7 +42,7 @@ impl Numbers {
 
     /// Whether the mask and the word of a write have no bits beyond the width. From a width of eight bytes on, every bit
     /// has a lane.
-    fn check_lanes(&self, mask: u8, word: u64) -> Result<(), Refusal>
+    fn check_lanes(&self, mask: u8, word: Word) -> Result<(), Refusal>
         ensures { Checked result (lanes_rule self.now mask word) }
     {
         if self.width >= 8 {

@@ -58,6 +58,7 @@ fn play_pile(
         burst: session.pile.burst_limit,
         pending: session.pile.pending_limit,
     };
+    // By cases: with `map_err` and `?`, tried, that a refusal leaves the answers has no proof.
     match kind {
         Pile::Memory => match ScriptedMemory::<W4>::new(storage, limits) {
             Ok(mut memory) => play_on(&mut memory, session, answers),
@@ -102,17 +103,13 @@ fn play_session(heap: Global, session: &Session<'_>) -> Result<Played, AllocErro
         words: &mut words,
         bursts: &mut bursts,
     };
-    let Ok(pile) = Pile::try_from(session.pile.pile) else {
-        unreachable()
-    };
-    match play_pile(pile, storage, session, &mut answers) {
-        Ok(summary) => Ok(Played {
-            pile,
-            answers,
-            summary,
-        }),
-        Err(_) => unreachable(),
-    }
+    let pile = Pile::try_from(session.pile.pile).unwrap();
+    let summary = play_pile(pile, storage, session, &mut answers).unwrap();
+    Ok(Played {
+        pile,
+        answers,
+        summary,
+    })
 }
 
 /// Reads a session file and plays it. A file that is no session is not played, and its first fault is the answer.

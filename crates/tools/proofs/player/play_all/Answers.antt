@@ -22,10 +22,10 @@ loop-i-preserved g c =
     let same = c.loop-i.invariant.0 in
     let legal = subst (λ (m : Numbers). Legal m τ) same (g.met.P.Port.legal c.loop-i.port) in
     let here = c.records-records.ensures.each in
-    let fields : c.in-Some.fields ≡ command_record (bytes_at xs (16 * i) 16) =
-    fields_are _ (bytes_at xs (16 * i) 16) c.in-Some.fields
-    (ap (λ (rs : List (List ℕ)). get_or rs i _) here ∙ chunk_at 16 (length xs / 16) xs i _ (omega (arith, c.records-records.ensures.count))) c.in-Some.ensures in
-    let played = subst (λ (m : Numbers). Played m τ c.in-Some.fields b υ) same c.play_one.ensures.plays in
+    let fields : c.unwrap-fields.result ≡ command_record (bytes_at xs (16 * i) 16) =
+    fields_are _ (bytes_at xs (16 * i) 16) c.unwrap-fields.result
+    (ap (λ (rs : List (List ℕ)). get_or rs i _) here ∙ chunk_at 16 (length xs / 16) xs i _ (omega (arith, c.records-records.ensures.count))) (sym c.unwrap-fields.ensures ∙ c.command_fields.ensures) in
+    let played = subst (λ (m : Numbers). Played m τ c.unwrap-fields.result b υ) same c.play_one.ensures.plays in
     let plays = subst (λ (f : CommandFields). Played n τ f b υ) fields played in (
       c.play_one.ensures.fixed ∙ same,
       more_ran n (g.P.Port.state c.args.port.now) xs bs i τ b υ (omega arith) legal c.loop-i.invariant.1 plays,
