@@ -28,6 +28,8 @@ impl<'a> Stretch<'a> {
     }
 }
 
+// The count of the file stays beside the bytes: a fault behind the last record is given with it.
+
 /// The records of a section, one after the other.
 #[derive(Clone, Copy)]
 pub struct Records<'a> {

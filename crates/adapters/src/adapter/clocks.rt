@@ -21,7 +21,7 @@ impl<P: Port, W: Width> Adapter<P, W> {
         let part = self.engine.shape.next_part(self.engine.slot);
         match self.below.clock(part) {
             Ok((taken, word)) => self.engine.settle(command, taken, word),
-            // no part is refused below
+            // No part is refused below; with `unwrap`, tried, the proof does not close.
             Err(_) => unreachable(),
         }
     }

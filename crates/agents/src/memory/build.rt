@@ -95,6 +95,7 @@ impl<'a, W: Width> ScriptedMemory<'a, W> {
           | Err e ↦ (number_of e.0 ≡ 2) × (Enough storage.entry limits.burst limits.pending → ⊥) × Unchanged storage.entry e.1
         ] }
     {
+        // No `?`: the storage goes back with the refusal.
         if let Err(refusal) = storage.check(limits) {
             return Err((refusal, storage));
         }

@@ -84,6 +84,7 @@ impl<'a> Reader<'a> {
         ] }
     {
         let place = self.place;
+        // By cases: with `ok_or`, tried, the proof does not close.
         let Some(stretch) = self.record(section.record_size()) else {
             return Err(section.fault_at(number, self.file.len(), FileFault::Broken));
         };
