@@ -10,8 +10,8 @@ pub struct Ring<'a, T> {
     slots: &'a mut [T],
     head: usize,
     count: usize,
-    ghost begins: { head ≤ length slots.now },
-    ghost fits: { count ≤ length slots.now },
+    pub ghost begins: { head ≤ length slots.now },
+    pub ghost fits: { count ≤ length slots.now },
 }
 
 impl<T> Ring<'_, T> {

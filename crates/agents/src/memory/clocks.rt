@@ -16,8 +16,8 @@ use std::marker::PhantomData;
 pub struct ScriptedMemory<'a, W: Width> {
     pub(super) parts: Parts<'a>,
     pub(super) width: PhantomData<W>,
-    ghost sound: { Sound parts } by { sound_prop parts },
-    ghost named: { (fixed_of parts).width ≡ W.BYTES },
+    pub ghost sound: { Sound parts } by { sound_prop parts },
+    pub ghost named: { (fixed_of parts).width ≡ W.BYTES },
 }
 
 impl<'a, W: Width> ScriptedMemory<'a, W> {
