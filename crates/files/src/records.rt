@@ -28,8 +28,6 @@ impl<'a> Stretch<'a> {
     }
 }
 
-// The count of the file stays beside the bytes: a fault behind the last record is given with it.
-
 /// The records of a section, one after the other.
 #[derive(Clone, Copy)]
 pub struct Records<'a> {

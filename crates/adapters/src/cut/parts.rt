@@ -55,8 +55,6 @@ impl Shape {
         low_bits(joined >> (8 * up), 8 * self.width)
     }
 
-    // `Placed` and `Loadable` are asked for: each depends on the cut and on another value, so no type carries it.
-
     /// The next part of a slot; idle where it is empty.
     pub(crate) fn next_part(self, slot: Slot) -> Command
         requires { Placed self.cut slot }
