@@ -1,8 +1,5 @@
 -- What an adapter keeps is what its code asks.
 use Rattle.std.proofs.Common.{◌≡◌, ℕ, ◌+◌, ◌*◌, ◌^◌, ◌<◌, ◌≤◌, List, [], ◌∷◌, length, get_or, Some, None, Option, sym, ap, ◌∙◌, subst, inl, inr, zero-mul, mul-one, mul-add, arith}
-use Rattle.std.proofs.Math.Logic.{∥∥₁_elim}
-use Rattle.std.proofs.Props.{props}
-use Rattle.std.specs.Coded.{Unit-prop}
 use Rattle.std.proofs.lemmas.Nat.{mul-le}
 use Rattle.std.proofs.lemmas.List.{length-append, length-map}
 use Rattle.std.proofs.lemmas.Bool.{cases_lt}
@@ -22,6 +19,7 @@ use Rattle.adapters.specs.Kept.{BurstsWithin, Kept, LinedUp, offsets_in_slot}
 use Rattle.adapters.specs.Owed.{bursts_in, next_owed, offsets_in}
 use Rattle.adapters.specs.declared.adapter.Engine.{Engine}
 use Rattle.adapters.specs.declared.cut.Cut.{Cut}
+use Rattle.adapters.specs.Whole.{kept_known}
 use Rattle.adapters.specs.Slots.{Empty, Reading, Beat, Slot}
 use Rattle.adapters.specs.declared.owed.OwedBurst.{OwedBurst}
 use Rattle.adapters.proofs.Replies.{LanesFit, write_fits}
@@ -39,7 +37,7 @@ near size (b ∷ bs) few within = omega (arith, within.1)
 parts_fit : (w g k : ℕ) → g < k → w * k ≤ 8 → w * g + w ≤ 8
 parts_fit w g k lt few = let h = mul-le w (g + 1) w k (omega arith) (omega arith) in omega (arith, mul-add w g 1, mul-one w)
 
-workable : (n : Numbers) (σ : State) (e : Engine) → Legal n σ → e.shape.width ≡ e.plain.numbers.width → Kept n σ e → Workable e
+pub workable : (n : Numbers) (σ : State) (e : Engine) → Legal n σ → e.shape.width ≡ e.plain.numbers.width → Kept n σ e → Workable e
 workable n σ e legal same kept =
     let k = kept in
     let f = k.fitted in
@@ -56,13 +54,8 @@ workable n σ e legal same kept =
       value_fits = k.value_fits;
     }
 
-placed_prop : (c : Cut) (s : Slot) → IsProp (Placed c s)
-placed_prop c Empty = Unit-prop
-placed_prop c (Reading h n) = Prim.hlevel props
-placed_prop c (Beat o p m d n) = Prim.hlevel props
-
 pub works : (n : Numbers) (σ : State) (e : Engine) → Legal n σ → e.shape.width ≡ e.plain.numbers.width → ∥ Kept n σ e ∥₁ → Workable e
-works n σ e legal same kept = ∥∥₁_elim kept (Prim.hlevel (props, placed_prop e.shape.cut e.slot)) (workable n σ e legal same)
+works n σ e legal same kept = workable n σ e legal same (kept_known n σ e kept)
 
 -- a word that comes was owed
 came_small : (limit x : ℕ) (owed : List ℕ) → First (Some x) owed → ((i : ℕ) → get_or owed i 0 < limit) → (x < limit) × (0 < length owed)
@@ -74,7 +67,7 @@ unfolding offsets_in
 some_bursts [] some = some
 some_bursts (b ∷ bs) some = omega arith
 
-due : (n : Numbers) (σ : State) (e : Engine) (x : Option ℕ) → Legal n σ → Kept n σ e → First x σ.owed → Due e x
+pub due : (n : Numbers) (σ : State) (e : Engine) (x : Option ℕ) → Legal n σ → Kept n σ e → First x σ.owed → Due e x
 due n σ e None legal kept first = tt
 due n σ e (Some x) legal kept first =
     let k = kept in
@@ -88,12 +81,8 @@ due n σ e (Some x) legal kept first =
     let some = some_bursts (bursts_in e.owed) all in
     (small, omega arith)
 
-due_prop : (e : Engine) (x : Option ℕ) → IsProp (Due e x)
-due_prop e None = Unit-prop
-due_prop e (Some x) = Prim.hlevel props
-
 pub comes_due : (n : Numbers) (σ : State) (e : Engine) (x : Option ℕ) → Legal n σ → ∥ Kept n σ e ∥₁ → First x σ.owed → Due e x
-comes_due n σ e x legal kept first = ∥∥₁_elim kept (due_prop e x) (λ k. due n σ e x legal k first)
+comes_due n σ e x legal kept first = due n σ e x legal (kept_known n σ e kept) first
 
 beat_near : (n : Numbers) (b : Option OpenBurst) (command : Command) → n.words ≤ 32768 → OpenWithin n b → command_rule n b command ≡ None → LanesFit n.width command → Loadable n.width b command
 beat_near n b Idle few within free fits = tt

@@ -4,6 +4,7 @@ pub mod Owed
 pub mod Engine
 pub mod Above
 pub mod Kept
+pub mod Whole
 pub mod Lawful
 pub mod Adapters
 pub mod Building

@@ -55,17 +55,16 @@ joined_part memory a e up le =
     ap (joined_bytes (byte_in part) 0) long ∙ same
 
 -- one lane more is stored where the mask enables it
-pub store_yes : (mask word i v : ℕ) (memory was : List ℕ) → enabled mask i ≡ true → v ≡ lane word i → was ≡ lanes_stored 0 mask word i memory →
-    set was i v ≡ lanes_stored 0 mask word (i + 1) memory
+pub store_yes : (start mask word i v : ℕ) (memory was : List ℕ) → enabled mask i ≡ true → v ≡ lane word i → was ≡ lanes_stored start mask word i memory →
+    set was (start + i) v ≡ lanes_stored start mask word (i + 1) memory
 unfolding lanes_stored
-store_yes mask word i v memory was on here e =
-    let z : 0 + i ≡ i = omega arith in
-    rw (add-one i) (rw on (rw z (rw here (ap (λ m. set m i (lane word i)) e))))
+store_yes start mask word i v memory was on here e =
+    rw (add-one i) (rw on (rw here (ap (λ m. set m (start + i) (lane word i)) e)))
 
-pub store_no : (mask word i : ℕ) (memory was : List ℕ) → enabled mask i ≡ false → was ≡ lanes_stored 0 mask word i memory →
-    was ≡ lanes_stored 0 mask word (i + 1) memory
+pub store_no : (start mask word i : ℕ) (memory was : List ℕ) → enabled mask i ≡ false → was ≡ lanes_stored start mask word i memory →
+    was ≡ lanes_stored start mask word (i + 1) memory
 unfolding lanes_stored
-store_no mask word i memory was off e = rw (add-one i) (rw off e)
+store_no start mask word i memory was off e = rw (add-one i) (rw off e)
 
 -- lanes stored within a part of a memory
 within_part : (front part back : List ℕ) (mask word n : ℕ) → n ≤ length part →

@@ -6,8 +6,8 @@ use Rattle.files.specs.Faults.{record_fault, records_fault}
 use Rattle.files.specs.Sections.{bytes_each}
 
 -- past a record without a fault, the fault is among those behind it
-pub records_go : (k : Section) (xs : List ℕ) (from b n : ℕ) → b < n → record_fault k xs from b ≡ None
-    → records_fault k xs (from + bytes_each k) (b + 1) (n - (b + 1)) ≡ records_fault k xs from b (n - b)
-records_go k xs from b n h e =
-    let more : n - b ≡ suc (n - (b + 1)) = omega arith in
+pub records_go : (k : Section) (xs : List ℕ) (from b i n : ℕ) → i < n → record_fault k xs from b ≡ None
+    → records_fault k xs (from + bytes_each k) (b + 1) (n - (i + 1)) ≡ records_fault k xs from b (n - i)
+records_go k xs from b i n h e =
+    let more : n - i ≡ suc (n - (i + 1)) = omega arith in
     grind (arith, common_steps)

@@ -12,6 +12,7 @@ use Rattle.port.specs.declared.addresses.WordOffset.{WordOffset}
 use Rattle.port.specs.declared.calls.Command.{Command}
 use Rattle.port.specs.declared.calls.Command.TheVariants.{Idle, Read, Write}
 use Rattle.port.specs.declared.calls.OpenBurst.{OpenBurst}
+use Rattle.port.specs.declared.calls.Reply.{Reply}
 use Rattle.port.specs.declared.calls.Reply.TheVariants as reply
 use Rattle.port.specs.declared.numbers.Numbers.{Numbers}
 use Rattle.port.specs.declared.record.PortRecord.{PortRecord}
@@ -89,9 +90,23 @@ tally_read p n σ c o k words bursts e is more one =
     let reads : bursts ≡ length (σ.reads ++ (k ∷ [])) = omega (arith, length_push σ.reads k) in
     rw is (cc)
 
+-- the record after a wait
+pub tally_wait : (p : PortRecord) (n : Numbers) (σ : State) (c : Command) (a : Reply) (waits : ℕ) →
+    p ≡ tally n σ → a ≡ reply.Wait → waits ≡ p.waits + 1 →
+    ◌≡◌ {A = PortRecord} (record { numbers = p.numbers; burst = p.burst; held = Some c; words_owed = p.words_owed; bursts_owed = p.bursts_owed; waits = waits; silence = p.silence })
+    (tally n (acted n.width c a σ))
+tally_wait p n σ c a waits e is more =
+    let was : p.waits ≡ σ.waits = ap (λ (q : PortRecord). q.waits) e in
+    let all : waits ≡ σ.waits + 1 = omega arith in
+    rw is (cc)
+
+-- the waits of a legal state, a word returned or not
 pub few_waits : (n : Numbers) (σ : State) (x : Option ℕ) → Legal n σ → (given x σ).waits ≤ 100000000
 few_waits n σ None legal = omega arith
 few_waits n σ (Some x) legal = omega arith
 
 pub silence_below : (n : Numbers) (σ : State) → Legal n σ → σ.silence ≤ 100000000
 silence_below n σ legal = omega arith
+
+pub waits_given : (n : Numbers) (σ : State) (x : Option ℕ) (p : PortRecord) → Legal n σ → p ≡ tally n (given x σ) → p.waits ≤ 100000000
+waits_given n σ x p legal e = let h : p.waits ≡ (given x σ).waits = ap (λ (q : PortRecord). q.waits) e in omega (arith, few_waits n σ x legal)

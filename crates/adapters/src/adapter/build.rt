@@ -29,16 +29,6 @@ fn is_at_rest(status: PortRecord) -> bool
     status.burst.is_none() && status.held.is_none() && status.words_owed == 0
 }
 
-/// What was made for a port, beside that port; with a refusal the port goes back.
-fn beside<T, P>(made: Result<T, Refusal>, port: P) -> Result<(T, P), (Refusal, P)>
-    ensures { elim result [ Ok x ↦ (made ≡ Ok x.0) × (x.1 ≡ port) | Err e ↦ (made ≡ Err e.0) × (e.1 ≡ port) ] }
-{
-    match made {
-        Ok(value) => Ok((value, port)),
-        Err(refusal) => Err((refusal, port)),
-    }
-}
-
 /// L': the port below may first let the slot's read wait, and then each of the parts of a word be late.
 fn silence_above(below: Numbers, parts: u8) -> u64
     ensures is { result ≡ silence_above parts below.wait_bound below.silence_bound }
@@ -196,8 +186,12 @@ fn over<W: Width, P: Port>(
           × (e.1 ≡ below)
     ] }
 {
-    let engine = Engine::over(below.status(), W::BYTES, cut, limits);
-    let (engine, below) = beside(engine, below)?;
+    // By cases, here and below: as a pair with the port, by `?`, tried, each port was moved twice more, and a pile took
+    // twice as long to build.
+    let engine = match Engine::over(below.status(), W::BYTES, cut, limits) {
+        Ok(engine) => engine,
+        Err(refusal) => return Err((refusal, below)),
+    };
     Ok(Adapter {
         below,
         engine,
@@ -220,8 +214,10 @@ pub fn narrower<W: Width, P: Port>(
           × (e.1 ≡ below)
     ] }
 {
-    let cut = narrow_cut(below.status().numbers, W::BYTES, pending_limit);
-    let (cut, below) = beside(cut, below)?;
+    let cut = match narrow_cut(below.status().numbers, W::BYTES, pending_limit) {
+        Ok(cut) => cut,
+        Err(refusal) => return Err((refusal, below)),
+    };
     let limits = Limits {
         burst: cut.most,
         pending: pending_limit,
@@ -238,8 +234,10 @@ pub fn splitter<W: Width, P: Port>(below: P, limits: Limits) -> Result<Adapter<P
           × (e.1 ≡ below)
     ] }
 {
-    let cut = split_cut(below.status().numbers, W::BYTES, limits);
-    let (cut, below) = beside(cut, below)?;
+    let cut = match split_cut(below.status().numbers, W::BYTES, limits) {
+        Ok(cut) => cut,
+        Err(refusal) => return Err((refusal, below)),
+    };
     over(below, cut, limits)
 }
 
@@ -252,8 +250,10 @@ pub fn widener<W: Width, P: Port>(below: P, limits: Limits) -> Result<Adapter<P,
           × (e.1 ≡ below)
     ] }
 {
-    let cut = wide_cut(below.status().numbers, W::BYTES, limits);
-    let (cut, below) = beside(cut, below)?;
+    let cut = match wide_cut(below.status().numbers, W::BYTES, limits) {
+        Ok(cut) => cut,
+        Err(refusal) => return Err((refusal, below)),
+    };
     over(below, cut, limits)
 }
 

@@ -4,7 +4,7 @@ ghost use Rattle.adapters.specs.Adapters.{TimedOver, fixed_over, state_over};
 ghost use Rattle.adapters.specs.Lawful.{legal_kept};
 ghost use Rattle.port.specs.Machine.{Clocks, refusal_in};
 
-use crate::adapter::Adapter;
+use crate::adapter::{Adapter, Engine};
 use port::calls::{Answer, Clocked, Command};
 use port::ports::Port;
 use port::record::PortRecord;
@@ -45,7 +45,9 @@ impl<P: Port, W: Width> Port for Adapter<P, W> {
         Ok(self.serve(command))
     }
 
+    #[tactic(auto, using(crate::specs::Lawful::tallied_kept))]
     fn status(&self) -> PortRecord {
-        self.engine.plain
+        let Engine { plain, .. } = &self.engine;
+        *plain
     }
 }

@@ -123,6 +123,8 @@ impl PortRecord {
     }
 
     /// Moves with a call that is not refused: the make of port says how it answers and what came back.
+    // Inlined, as `check` is: else the command, the word and the answer go through memory in every call of a port.
+    #[inline(always)]
     pub fn clock(&mut self, command: Command, reply: Reply, returned: Option<Returned>) -> Clocked
         ensures moves { (n : Numbers) (σ : State) → self.old ≡ tally n σ → Legal n σ → refusal_in n σ command ≡ None
             → Came returned σ.reads → self.new ≡ tally n (moved n.width σ command reply (came_word returned)) }

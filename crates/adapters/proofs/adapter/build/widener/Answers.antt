@@ -1,13 +1,8 @@
-use Rattle.std.proofs.Common.{sym, subst}
-use Rattle.adapters.specs.Building.{Suited}
 use Rattle.adapters.proofs.Building.{wide_suits}
 use Rattle.adapters.proofs.adapter.build.widener.Goals as goal
 
 pub over-requires : goal.over-requires
 over-requires g c =
     let x = c.args.below in
-    let cut = c.in_ok-cut.cut in
-    let made = rw c.in_ok-cut.ensures.0 at c.wide_cut-cut.ensures in
-    subst (λ y. Suited cut (g.P.Port.fixed y) g.W.Width.BYTES c.args.limits.burst c.args.limits.pending) (sym c.in_ok-cut.ensures.1)
-    (wide_suits (g.P.Port.fixed x) (g.P.Port.state x) c.status.result g.W.Width.BYTES c.BYTES.result c.args.limits.burst c.args.limits.pending cut
-    (g.met.P.Port.legal x).ranges g.met.W.Width.widths c.status.ensures c.BYTES.ensures made.0 made.1)
+    wide_suits (g.P.Port.fixed x) (g.P.Port.state x) c.status.result g.W.Width.BYTES c.BYTES.result c.args.limits.burst c.args.limits.pending c.in-Ok.cut
+    (g.met.P.Port.legal x).ranges g.met.W.Width.widths c.status.ensures c.BYTES.ensures c.in-Ok.ensures.0 c.in-Ok.ensures.1
