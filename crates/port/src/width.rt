@@ -36,8 +36,6 @@ pub trait Width {
 
 // Four types, and not one with a number as its parameter: not every number is a width, so no one impl has a proof.
 
-// Four types, and not one over a number: of one impl no proof says that every number is a width.
-
 /// Words of one byte.
 #[derive(Clone, Copy)]
 pub struct W1;

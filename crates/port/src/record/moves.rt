@@ -123,7 +123,8 @@ impl PortRecord {
     }
 
     /// Moves with a call that is not refused: the make of port says how it answers and what came back.
-    // Inlined, as `check` is: else the command, the word and the answer go through memory in every call of a port.
+    // Inlined: else the word and the reply go through memory in every call of a port. With `check` inlined too, tried, a
+    // call that an adapter refuses took twice as long.
     #[inline(always)]
     pub fn clock(&mut self, command: Command, reply: Reply, returned: Option<Returned>) -> Clocked
         ensures moves { (n : Numbers) (σ : State) → self.old ≡ tally n σ → Legal n σ → refusal_in n σ command ≡ None

@@ -81,7 +81,6 @@ impl Numbers {
 
 impl PortRecord {
     /// Whether a command is not refused in this state.
-    #[inline(always)]
     pub fn check(&self, command: Command) -> Result<(), Refusal>
         ensures { Checked result (refusal_by self.now.numbers self.now.burst self.now.held command) }
     {
