@@ -1,6 +1,6 @@
 -- All that an adapter keeps can be had of it, and not only that it keeps something: a number that is chosen in it, and
 -- which of two cases holds, is known from the rest.
-use Rattle.std.proofs.Common.{◌≡◌, ℕ, ◌+◌, ◌-◌, ◌*◌, ◌/◌, ◌≤◌, ltb, ◌⊎◌, List, [], ◌∷◌, ◌++◌, length, take, Some, None, Option, sym, ap, ◌∙◌, subst, inl, inr, arith}
+use Rattle.std.proofs.Common.{◌≡◌, ℕ, zero, suc, ◌+◌, ◌-◌, ◌*◌, ◌/◌, ◌≤◌, ltb, ◌⊎◌, List, [], ◌∷◌, ◌++◌, length, take, Some, None, Option, sym, refl, ap, ◌∙◌, subst, inl, inr, arith}
 use Rattle.std.specs.Coded.{Unit-prop}
 use Rattle.std.proofs.Math.Logic.{∥∥₁_elim, ∥∥₁_map}
 use Rattle.std.proofs.Math.Nat.{mul-div_cancel}
@@ -21,13 +21,14 @@ use Rattle.adapters.specs.declared.adapter.Engine.{Engine}
 use Rattle.adapters.specs.declared.cut.Cut.{Cut}
 use Rattle.adapters.specs.declared.owed.OwedBurst.{OwedBurst}
 
+one_or_not : (n : ℕ) → (n ≡ 1) ⊎ (n ≡ 1 → ⊥)
+one_or_not zero = inr (λ e. omega arith)
+one_or_not (suc zero) = inl refl
+one_or_not (suc (suc n)) = inr (λ e. omega arith)
+
 -- a word below holds no more than one host word, or else every burst below has one word
 kind_known : (c : Cut) → ((c.share ≡ 1 → ⊥) → (c.parts ≡ 1) × (c.most ≡ 1)) → (c.share ≡ 1) ⊎ ((c.parts ≡ 1) × (c.most ≡ 1))
-kind_known c other =
-    elim (cases_lt c.share 1) [
-      | inl none ↦ inr (other (λ e. omega arith))
-      | inr some ↦ elim (cases_lt 1 c.share) [ inl more ↦ inr (other (λ e. omega arith)) | inr few ↦ inl (omega arith) ]
-    ]
+kind_known c other = elim (one_or_not c.share) [ inl one ↦ inl one | inr not_one ↦ inr (other not_one) ]
 
 kind_other : (c : Cut) → (c.share ≡ 1) ⊎ ((c.parts ≡ 1) × (c.most ≡ 1)) → (c.share ≡ 1 → ⊥) → (c.parts ≡ 1) × (c.most ≡ 1)
 kind_other c (inl one) not_one = absurd (not_one one)
@@ -77,8 +78,8 @@ opening_known c n o p left (Some b) some t =
       ∥∥₁_elim t (Prim.hlevel props) (λ x. subst (λ k. k + 1 ≤ left) (same x) x.4),
     )
 
--- the host word of a beat: the one before the next of the open burst, or, of the last beat, the one whose parts these are; where
--- a word below holds several, any one will do
+-- the host word of a beat: the one before the next of the open burst, or, of the last beat, the one whose parts these are. Where
+-- a word below holds several, what is kept does not tell them apart, and any will do
 abbrev At : Cut → Numbers → ℕ → ℕ → ℕ → Option OpenBurst → ℕ → Type 0
 At c n' o p left b' host = (host + left ≤ n'.words) × (c.share ≡ 1 → o + p ≡ (host + 1) * c.parts) × (b' ≡ rest_of_burst host left)
 
@@ -101,16 +102,12 @@ host_known c n n' o p left b b' some t =
           sym (ap next_in (x.rest ∙ cond-true (ltb 1 left) (Some (record { next = x.host + 1; left = left - 1 })) None (lt-ltb 1 left more)) ∙ gone) in
           (next_in b', ∥∥₁_elim t (Prim.hlevel props) (λ x. subst (At c n' o p left b') (same x) (x.host_inside, x.place, x.rest)))
       | inr last ↦
-          elim (cases_lt c.share 1) [
-            | inl none ↦ (0, ∥∥₁_elim t (Prim.hlevel props) (λ x. (omega (arith, x.host_inside), (λ one. absurd (omega arith)), x.rest ∙ last_rest x.host left last)))
-            | inr enough ↦
-                elim (cases_lt 1 c.share) [
-                  | inl several ↦ (0, ∥∥₁_elim t (Prim.hlevel props) (λ x. (omega (arith, x.host_inside), (λ one. absurd (omega arith)), x.rest ∙ last_rest x.host left last)))
-                  | inr few ↦
-                      let same : (x : WithinBeat c n n' o p left b b') → x.host ≡ (o + p) / c.parts - 1 =
-                      λ x. let whole : (x.host + 1) ≡ (o + p) / c.parts = sym (mul-div_cancel (x.host + 1) (omega arith)) ∙ ap (λ k. k / c.parts) (sym (x.place (omega arith))) in omega arith in
-                      ((o + p) / c.parts - 1, ∥∥₁_elim t (Prim.hlevel props) (λ x. subst (At c n' o p left b') (same x) (x.host_inside, x.place, x.rest)))
-                ]
+          elim (one_or_not c.share) [
+            | inl one ↦
+                let same : (x : WithinBeat c n n' o p left b b') → x.host ≡ (o + p) / c.parts - 1 =
+                λ x. let whole : (x.host + 1) ≡ (o + p) / c.parts = sym (mul-div_cancel (x.host + 1) (omega arith)) ∙ ap (λ k. k / c.parts) (sym (x.place one)) in omega arith in
+                ((o + p) / c.parts - 1, ∥∥₁_elim t (Prim.hlevel props) (λ x. subst (At c n' o p left b') (same x) (x.host_inside, x.place, x.rest)))
+            | inr not_one ↦ (0, ∥∥₁_elim t (Prim.hlevel props) (λ x. (omega (arith, x.host_inside), (λ one. absurd (not_one one)), x.rest ∙ last_rest x.host left last)))
           ]
     ]
 

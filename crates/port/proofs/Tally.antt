@@ -105,8 +105,8 @@ pub few_waits : (n : Numbers) (σ : State) (x : Option ℕ) → Legal n σ → (
 few_waits n σ None legal = omega arith
 few_waits n σ (Some x) legal = omega arith
 
-pub silence_below : (n : Numbers) (σ : State) → Legal n σ → σ.silence ≤ 100000000
-silence_below n σ legal = omega arith
-
 pub waits_given : (n : Numbers) (σ : State) (x : Option ℕ) (p : PortRecord) → Legal n σ → p ≡ tally n (given x σ) → p.waits ≤ 100000000
 waits_given n σ x p legal e = let h : p.waits ≡ (given x σ).waits = ap (λ (q : PortRecord). q.waits) e in omega (arith, few_waits n σ x legal)
+
+pub silence_below : (n : Numbers) (σ : State) → Legal n σ → σ.silence ≤ 100000000
+silence_below n σ legal = omega arith
